@@ -1,0 +1,13 @@
+use esb_ask::Outcome;
+use esb_base::Shared;
+use esb_flags::Options;
+
+/// What can be seen of a build.
+#[derive(Drop)]
+pub struct View {
+    /// The context's key.
+    pub key: u32,
+    pub options: Shared<Options>,
+    /// How it ended, once it is settled.
+    pub outcome: Option<Outcome>,
+}
