@@ -1,5 +1,5 @@
 -- What a host tells of files.
-use Rattle.std.specs.Prelude.{◌≡◌, ℕ, ◌-◌, ◌^◌, ◌≤◌, min, if◌then◌else◌, nat_eq, nat_lt, Bool, true, false, ◌||◌, List, [], ◌∷◌, ◌++◌, length, Option, Some, None, slice_index_or}
+use Rattle.std.specs.Prelude.{◌≡◌, ℕ, ◌-◌, ◌^◌, ◌≤◌, min, if◌then◌else◌, nat_eq, nat_lt, Bool, true, false, ◌&&◌, ◌||◌, drop, List, [], ◌∷◌, length, Option, Some, None, slice_index_or}
 use Rattle.std.specs.Map.{lookup}
 use Rattle.std.specs.Str.{bytes_eq}
 use Rattle.std.specs.List.{starts_with}
@@ -20,21 +20,21 @@ most_bytes = 16777216
 abbrev pub folder_of : List Folder → ℕ → Folder
 folder_of world turn = slice_index_or world (min turn (length world - 1)) []
 
--- a path with a slash at its end
-abbrev pub as_prefix : List ℕ → List ℕ
-as_prefix path = if bytes_eq path (47 ∷ []) then path else path ++ 47 ∷ []
+-- whether a file's path lies below a path: it goes on behind it with a slash
+abbrev pub is_below : List ℕ → List ℕ → Bool
+is_below path file = starts_with nat_eq file path && (bytes_eq path (47 ∷ []) || starts_with nat_eq (drop (length path) file) (47 ∷ []))
 
 -- whether a file of the folder lies below the path
 abbrev pub has_below : List ℕ → Folder → Bool
 has_below path [] = false
-has_below path (file ∷ files) = starts_with nat_eq file.0 (as_prefix path) || has_below path files
+has_below path (file ∷ files) = is_below path file.0 || has_below path files
 
 abbrev pub kind_in : Folder → List ℕ → Option (List ℕ) → KindAnswer
 kind_in folder path (Some contents) = kind.File
 kind_in folder path None = if has_below path folder then kind.Folder else kind.Missing
 
 -- what lies at a path in the folder of a turn
-unfoldable pub kind_told : List Folder → ℕ → List ℕ → KindAnswer
+abbrev pub kind_told : List Folder → ℕ → List ℕ → KindAnswer
 kind_told world turn path = kind_in (folder_of world turn) path (lookup (bytes_eq path) (folder_of world turn))
 
 abbrev pub read_in : Option (List ℕ) → ReadAnswer
@@ -42,7 +42,7 @@ read_in None = read.Missing
 read_in (Some contents) = if nat_lt most_bytes (length contents) then read.TooBig else read.Bytes contents
 
 -- what the file at a path in the folder of a turn has
-unfoldable pub read_told : List Folder → ℕ → List ℕ → ReadAnswer
+abbrev pub read_told : List Folder → ℕ → List ℕ → ReadAnswer
 read_told world turn path = read_in (lookup (bytes_eq path) (folder_of world turn))
 
 -- the answer is what is told, or it failed, or memory was refused
