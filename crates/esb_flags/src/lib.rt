@@ -2,7 +2,13 @@
 #![tactic(auto)]
 
 mod command;
+mod fields;
+mod laws;
 mod options;
+mod reading;
+mod shapes;
 
 pub use command::{Command, CommandFault};
+pub use laws::accepted_builds;
 pub use options::{Filter, Options, Plugin};
+pub use reading::read_command;

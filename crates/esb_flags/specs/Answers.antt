@@ -1,0 +1,24 @@
+-- What a call answers, beside what is asked. It is free where memory was refused.
+use Rattle.std.specs.Prelude.{◌≡◌, ℕ, List, Option, Some, None, Result, Ok, Err}
+use Rattle.esb_flags.specs.declared.command.CommandFault.{CommandFault}
+use Rattle.esb_flags.specs.declared.command.CommandFault.TheVariants as faults
+use Rattle.esb_flags.specs.declared.shapes.Misfit.{Misfit}
+use Rattle.esb_flags.specs.declared.shapes.Misfit.TheVariants as misfit
+use Rattle.esb_flags.specs.Fields.{Answer}
+
+abbrev pub Misfits : {Y : Type 0} → Misfit → Option Y → Type 0
+Misfits misfit.Shape read = read ≡ None
+Misfits misfit.Memory read = Unit {0}
+
+-- the result, seen by view, is what is read
+abbrev pub Reads : {X Y : Type 0} → (X → Y) → Result X Misfit → Option Y → Type 0
+Reads view (Ok x) read = read ≡ Some (view x)
+Reads view (Err fault) read = Misfits fault read
+
+abbrev pub Refuses : {X : Type 0} → Answer X → CommandFault → Type 0
+Refuses asked (faults.Refused text) = asked ≡ Err text
+Refuses asked faults.Memory = Unit {0}
+
+abbrev pub Answers : {X : Type 0} → Result X CommandFault → Answer X → Type 0
+Answers (Ok x) asked = asked ≡ Ok x
+Answers (Err fault) asked = Refuses asked fault

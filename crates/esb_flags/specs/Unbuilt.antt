@@ -1,0 +1,92 @@
+-- Which commands and builds this version takes: files of one folder, copied into another. All others are refused as not built yet.
+use Rattle.std.specs.Prelude.{ℕ, ◌-◌, ◌==◌, Bool, true, false, not, ◌&&◌, if◌then◌else◌, nat_eq, List, [], ◌∷◌, length, map, take, drop, codes, Option, Some, None}
+use Rattle.std.specs.List.{list_all, list_any, slice_split, starts_with, ends_with}
+use Rattle.std.specs.Str.{bytes_eq}
+use Rattle.esb_base.specs.declared.flags.Flags.{Flags}
+use Rattle.esb_base.specs.declared.flags.Loader.TheVariants as loader
+use Rattle.esb_flags.specs.declared.fields.Fields.{Fields}
+use Rattle.esb_flags.specs.Shapes.{◌>>=◌}
+
+-- the commands that are known beside `build`
+abbrev pub unbuilt_commands : List (List ℕ)
+unbuilt_commands = codes "rebuild" ∷ codes "cancel" ∷ codes "dispose" ∷ codes "watch" ∷ codes "serve" ∷ codes "ping" ∷ []
+
+abbrev pub slash : ℕ
+slash = 47
+
+abbrev pub dot : ℕ
+dot = 46
+
+abbrev pub holds : ℕ → List ℕ → Bool
+holds byte chars = list_any (λ b. b == byte) chars
+
+-- not empty, without a dot and without a slash
+abbrev pub is_word : List ℕ → Bool
+is_word chars = not (bytes_eq chars []) && not (holds dot chars) && not (holds slash chars)
+
+abbrev pub if_word : List ℕ → Option (List ℕ)
+if_word chars = if is_word chars then Some chars else None
+
+-- what stands behind the front, and before the back
+unfoldable pub behind : List ℕ → List ℕ → Option (List ℕ)
+behind front chars = if starts_with nat_eq chars front then Some (drop (length front) chars) else None
+
+unfoldable pub before : List ℕ → List ℕ → Option (List ℕ)
+before back chars = if ends_with nat_eq chars back then Some (take (length chars - length back) chars) else None
+
+-- X of `--outdir=X`
+unfoldable pub outdir_of : List ℕ → Option (List ℕ)
+outdir_of flag = behind (codes "--outdir=") flag >>= if_word
+
+-- E of `--loader:.E=copy`
+unfoldable pub extension_of : List ℕ → Option (List ℕ)
+extension_of flag = do
+  assigned ← behind (codes "--loader:.") flag
+  extension ← before (codes "=copy") assigned
+  if_word extension
+
+abbrev pub copying : List (List ℕ) → Option (List ℕ × List ℕ)
+copying (first ∷ second ∷ []) = do
+  outdir ← outdir_of first
+  extension ← extension_of second
+  Some (outdir, extension)
+copying flags = None
+
+abbrev pub is_segment : List ℕ → Bool
+is_segment segment = not (bytes_eq segment []) && not (bytes_eq segment (codes ".")) && not (bytes_eq segment (codes ".."))
+
+-- an absolute path below the root, with no segment that is empty, one dot or two dots
+abbrev pub is_folder : List ℕ → Bool
+is_folder [] = false
+is_folder (first ∷ rest) = (first == slash) && list_all is_segment (slice_split (λ b. b == slash) rest)
+
+-- An entry with no output path of its own, and a file of the working folder with this extension. So its path is not empty, and not one or two dots.
+abbrev pub is_copied : List ℕ → List ℕ × List ℕ → Bool
+is_copied extension entry = bytes_eq entry.0 [] && ends_with nat_eq entry.1 (dot ∷ extension) && not (holds slash entry.1)
+
+-- no text stands twice
+abbrev pub all_differ : List (List ℕ) → Bool
+all_differ [] = true
+all_differ (chars ∷ others) = not (list_any (bytes_eq chars) others) && all_differ others
+
+unfoldable pub is_copying : List ℕ → Fields → Bool
+is_copying extension fields = not fields.write && not fields.context && (length fields.plugins == 0) && is_folder fields.cwd
+    && list_all (is_copied extension) fields.entries && all_differ (map (λ entry. entry.1) fields.entries)
+
+abbrev pub copy_flags : List ℕ → List ℕ → Flags
+copy_flags outdir extension = record {
+  outdir = Some outdir;
+  outfile = None;
+  splitting = false;
+  loaders = (extension, loader.Copy) ∷ [];
+  externals = [];
+  conditions = [];
+  entry_names = codes "[dir]/[name]";
+  chunk_names = codes "[name]-[hash]";
+}
+
+-- the flags of a build that this version takes
+unfoldable pub flags_of : Fields → Option Flags
+flags_of fields = do
+  words ← copying fields.flags
+  if is_copying words.1 fields then Some (copy_flags words.0 words.1) else None
