@@ -1,0 +1,7 @@
+pub mod Claims
+pub mod Jobs
+pub mod Keeping
+pub mod Laws
+pub mod Pushes
+pub mod Readings
+pub mod Replays

@@ -1,5 +1,8 @@
+ghost use Rattle.std.specs.Prelude.{◌≡◌, IfOk};
+
 use crate::out::Out;
 use esb_ask::{Answer, Outcome, Product, Question, Task};
+use esb_base::{List, Memory};
 use esb_wire::Packet;
 
 /// Who does the work.
@@ -66,6 +69,12 @@ pub enum Event {
     Pop,
 }
 
+/// The events of a session, in order.
+#[derive(Drop)]
+pub struct Journal {
+    pub events: List<Event>,
+}
+
 /// What a step tells.
 #[derive(Drop)]
 pub enum Told {
@@ -76,4 +85,19 @@ pub enum Told {
     Stale,
     /// What was owed first.
     Owed(Out),
+}
+
+impl Job {
+    /// The same job once more.
+    pub fn share(&self) -> Result<Job, Memory>
+        ensures { IfOk result (λ job. job ≡ self.now) }
+    {
+        match self {
+            Job::Scan { build, task } => Ok(Job::Scan {
+                build: *build,
+                task: task.share()?,
+            }),
+            Job::Link { build } => Ok(Job::Link { build: *build }),
+        }
+    }
 }

@@ -1,5 +1,5 @@
 -- What a call answers, beside what is asked. It is free where memory was refused.
-use Rattle.std.specs.Prelude.{◌≡◌, ℕ, List, Option, Some, None, Result, Ok, Err}
+use Rattle.std.specs.Prelude.{◌≡◌, ℕ, List, ◌++◌, codes, Option, Some, None, Result, Ok, Err}
 use Rattle.esb_flags.specs.declared.command.CommandFault.{CommandFault}
 use Rattle.esb_flags.specs.declared.command.CommandFault.TheVariants as faults
 use Rattle.esb_flags.specs.declared.shapes.Misfit.{Misfit}
@@ -22,3 +22,13 @@ Refuses asked faults.Memory = Unit {0}
 abbrev pub Answers : {X : Type 0} → Result X CommandFault → Answer X → Type 0
 Answers (Ok x) asked = asked ≡ Ok x
 Answers (Err fault) asked = Refuses asked fault
+
+-- a refusal with this text
+abbrev pub IsRefusal : List ℕ → CommandFault → Type 0
+IsRefusal chars (faults.Refused text) = text ≡ chars
+IsRefusal chars faults.Memory = Unit {0}
+
+-- why the field was not read
+abbrev pub IsUnfit : List ℕ → Misfit → CommandFault → Type 0
+IsUnfit name misfit.Shape fault = IsRefusal (codes "Missing field: " ++ name) fault
+IsUnfit name misfit.Memory fault = fault ≡ faults.Memory

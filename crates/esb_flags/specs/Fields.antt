@@ -10,7 +10,7 @@ Answer X = Result X (List ℕ)
 
 infixl 10 ◌>>=◌
 abbrev pub ◌>>=◌ : {A B : Type 0} → Answer A → (A → Answer B) → Answer B
-(Err text) >>= f = Err text
+(Err refusal) >>= f = Err refusal
 (Ok x) >>= f = f x
 
 abbrev pub or_missing : {X : Type 0} → List ℕ → Option X → Answer X

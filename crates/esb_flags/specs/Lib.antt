@@ -4,3 +4,4 @@ pub mod Unbuilt
 pub mod Command
 pub mod Answers
 pub mod Accepted
+pub mod Named

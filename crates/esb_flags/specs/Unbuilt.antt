@@ -22,7 +22,7 @@ holds byte chars = list_any (λ b. b == byte) chars
 
 -- not empty, without a dot and without a slash
 abbrev pub is_word : List ℕ → Bool
-is_word chars = not (bytes_eq chars []) && not (holds dot chars) && not (holds slash chars)
+is_word chars = not (length chars == 0) && not (holds dot chars) && not (holds slash chars)
 
 abbrev pub if_word : List ℕ → Option (List ℕ)
 if_word chars = if is_word chars then Some chars else None
@@ -53,25 +53,26 @@ copying (first ∷ second ∷ []) = do
 copying flags = None
 
 abbrev pub is_segment : List ℕ → Bool
-is_segment segment = not (bytes_eq segment []) && not (bytes_eq segment (codes ".")) && not (bytes_eq segment (codes ".."))
+is_segment segment = not (length segment == 0) && not (bytes_eq segment (codes ".")) && not (bytes_eq segment (codes ".."))
 
 -- an absolute path below the root, with no segment that is empty, one dot or two dots
 abbrev pub is_folder : List ℕ → Bool
 is_folder [] = false
 is_folder (first ∷ rest) = (first == slash) && list_all is_segment (slice_split (λ b. b == slash) rest)
 
--- An entry with no output path of its own, and a file of the working folder with this extension. So its path is not empty, and not one or two dots.
+-- An entry with no output path of its own, and the path of a file of the working folder that ends so.
 abbrev pub is_copied : List ℕ → List ℕ × List ℕ → Bool
-is_copied extension entry = bytes_eq entry.0 [] && ends_with nat_eq entry.1 (dot ∷ extension) && not (holds slash entry.1)
+is_copied suffix entry = (length entry.0 == 0) && ends_with nat_eq entry.1 suffix && not (holds slash entry.1)
 
 -- no text stands twice
 abbrev pub all_differ : List (List ℕ) → Bool
 all_differ [] = true
 all_differ (chars ∷ others) = not (list_any (bytes_eq chars) others) && all_differ others
 
+-- A path that ends with a dot and the extension, which has no dot, is not empty and not one or two dots.
 unfoldable pub is_copying : List ℕ → Fields → Bool
 is_copying extension fields = not fields.write && not fields.context && (length fields.plugins == 0) && is_folder fields.cwd
-    && list_all (is_copied extension) fields.entries && all_differ (map (λ entry. entry.1) fields.entries)
+    && list_all (is_copied (dot ∷ extension)) fields.entries && all_differ (map (λ entry. entry.1) fields.entries)
 
 abbrev pub copy_flags : List ℕ → List ℕ → Flags
 copy_flags outdir extension = record {

@@ -7,8 +7,12 @@ mod laws;
 mod options;
 mod reading;
 mod shapes;
+mod unbuilt;
 
 pub use command::{Command, CommandFault};
-pub use laws::accepted_builds;
+pub use laws::{accepted_builds, same_fields};
 pub use options::{Filter, Options, Plugin};
 pub use reading::read_command;
+
+#[cfg(test)]
+mod tests;

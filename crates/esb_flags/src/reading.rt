@@ -1,9 +1,150 @@
-ghost use Rattle.std.specs.Prelude.{◌≡◌, ℕ, List, Ok, Err, IfOk};
-ghost use Rattle.esb_flags.specs.Command.{asked};
+ghost use Rattle.std.specs.Prelude.{◌≡◌, ℕ, List, ◌++◌, Ok, Err, IfOk};
+ghost use Rattle.esb_flags.specs.Answers.{Answers, IsRefusal, IsUnfit};
+ghost use Rattle.esb_flags.specs.Command.{asked, build_of, command_of};
+ghost use Rattle.esb_flags.specs.Fields.{needed, allowed, fields_of};
 
 use crate::command::{Command, CommandFault};
+use crate::fields::Fields;
+use crate::options::Options;
+use crate::shapes::{Misfit, Shaped, optional, required};
+use crate::unbuilt::{flags_of, is_unbuilt};
+use esb_base::{List, Memory, Text};
 use esb_wire::Value;
 use std::alloc::Global;
+
+/// The most entries of a build.
+const MOST_ENTRIES: usize = 1_024;
+
+/// The refusal with this text.
+fn refused(alloc: Global, text: &str) -> CommandFault
+    ensures { IsRefusal text.now result }
+{
+    match Text::of(alloc, text) {
+        Ok(text) => CommandFault::Refused(text),
+        Err(Memory) => CommandFault::Memory,
+    }
+}
+
+fn joined(alloc: Global, reason: &str, subject: &str) -> Result<Text, Memory>
+    ensures { IfOk result (λ text. text ≡ reason.now ++ subject.now) }
+{
+    let mut text = String::from_str(alloc, reason)?;
+    text.push_str(subject)?;
+    Text::of(alloc, text.as_str())
+}
+
+/// The refusal with the reason and what it is about.
+fn refused_for(alloc: Global, reason: &str, subject: &str) -> CommandFault
+    ensures { IsRefusal (reason.now ++ subject.now) result }
+{
+    match joined(alloc, reason, subject) {
+        Ok(text) => CommandFault::Refused(text),
+        Err(Memory) => CommandFault::Memory,
+    }
+}
+
+fn unfit(alloc: Global, name: &str, misfit: Misfit) -> CommandFault
+    ensures { IsUnfit name.now misfit result }
+{
+    match misfit {
+        Misfit::Shape => refused_for(alloc, "Missing field: ", name),
+        Misfit::Memory => CommandFault::Memory,
+    }
+}
+
+fn needed<T: Shaped + Drop>(alloc: Global, request: &Value, name: &str) -> Result<T, CommandFault>
+    ensures { Answers result (needed name.now T.shape request.now) }
+{
+    match required(alloc, request, name) {
+        Ok(found) => Ok(found),
+        Err(misfit) => Err(unfit(alloc, name, misfit)),
+    }
+}
+
+/// A field that may be absent, and is `absent` then.
+fn allowed<T: Shaped + Drop>(
+    alloc: Global,
+    request: &Value,
+    name: &str,
+    absent: T,
+) -> Result<T, CommandFault>
+    ensures { Answers result (allowed name.now absent T.shape request.now) }
+{
+    match optional(alloc, request, name, absent) {
+        Ok(found) => Ok(found),
+        Err(misfit) => Err(unfit(alloc, name, misfit)),
+    }
+}
+
+#[tactic(auto, unfolding(crate::specs::Fields::fields_of))]
+fn fields_of(alloc: Global, request: &Value) -> Result<Fields, CommandFault>
+    ensures { Answers result (fields_of request.now) }
+{
+    let key = needed(alloc, request, "key")?;
+    let entries = needed(alloc, request, "entries")?;
+    let flags = needed(alloc, request, "flags")?;
+    let cwd = needed(alloc, request, "absWorkingDir")?;
+    let write = needed(alloc, request, "write")?;
+    let context = needed(alloc, request, "context")?;
+    let plugins = allowed(alloc, request, "plugins", List::new(alloc))?;
+    Ok(Fields {
+        key,
+        entries,
+        flags,
+        cwd,
+        write,
+        context,
+        plugins,
+    })
+}
+
+#[tactic(auto, unfolding(crate::specs::Command::build_of))]
+fn build_of(alloc: Global, request: &Value) -> Result<Command, CommandFault>
+    ensures { Answers result (build_of request.now) }
+{
+    let fields = fields_of(alloc, request)?;
+    let Some(flags) = flags_of(alloc, &fields)? else {
+        return Err(refused(alloc, "Not built yet"));
+    };
+    if fields.entries.len() > MOST_ENTRIES {
+        return Err(refused(alloc, "Too many entries"));
+    }
+    Ok(Command::Build {
+        key: fields.key,
+        options: Options {
+            cwd: fields.cwd,
+            entries: fields.entries,
+            write: fields.write,
+            context: fields.context,
+            plugins: fields.plugins,
+            flags,
+        },
+    })
+}
+
+#[tactic(auto, unfolding(crate::specs::Command::command_of))]
+fn command_of(alloc: Global, name: &str, request: &Value) -> Result<Command, CommandFault>
+    ensures { Answers result (command_of name.now request.now) }
+{
+    if name == "build" {
+        return build_of(alloc, request);
+    }
+    if is_unbuilt(name) {
+        return Err(refused(alloc, "Not built yet"));
+    }
+    Err(refused_for(alloc, "Unknown command: ", name))
+}
+
+#[tactic(auto, unfolding(crate::specs::Command::asked))]
+fn answer_of(alloc: Global, request: &Value) -> Result<Command, CommandFault>
+    ensures { Answers result (asked request.now) }
+{
+    let Value::Map(_) = request else {
+        return Err(refused(alloc, "Request is not a map"));
+    };
+    let name: Text = needed(alloc, request, "command")?;
+    command_of(alloc, name.as_str(), request)
+}
 
 /// What the value of a client's request asks for.
 ///
@@ -12,6 +153,5 @@ pub fn read_command(alloc: Global, value: &Value) -> Result<Command, CommandFaul
     ensures command { IfOk result (λ command. asked value.now ≡ Ok command) }
     ensures refused { (text : List ℕ) → result ≡ Err (CommandFault.Refused text) → asked value.now ≡ Err text }
 {
-    let _ = (alloc, value);
-    Err(CommandFault::Memory)
+    answer_of(alloc, value)
 }

@@ -1,0 +1,56 @@
+-- What the machine is seen as.
+use Rattle.std.specs.Prelude.{ℕ, Bool, true, false, List, [], Option, None, Some, slice_index_or}
+use Rattle.esb_base.specs.declared.flags.Flags.{Flags}
+use Rattle.esb_flags.specs.declared.options.Options.{Options}
+use Rattle.esb_ask.specs.declared.question.Question.{Question}
+use Rattle.esb_ask.specs.declared.answer.Answer.{Answer}
+use Rattle.esb_ask.specs.declared.task.Task.{Task}
+use Rattle.esb_ask.specs.declared.outcome.Outcome.{Outcome}
+use Rattle.esb_core.specs.declared.out.Out.{Out}
+
+-- a build
+pub record Building : Type 0 where
+  pub key : ℕ
+  pub options : Options
+  -- the id of the request that waits for it
+  pub waiter : ℕ
+  -- the first answers to its questions
+  pub table : List (Question × Answer)
+  -- its tasks, in the order in which they were opened
+  pub tasks : List Task
+  -- how many of them were claimed
+  pub claimed : ℕ
+  -- the claims that stand: a worker, and its task
+  pub claims : List (ℕ × Task)
+  -- the worker that has claimed the link
+  pub linker : Option ℕ
+  -- how it was settled
+  pub outcome : Option Outcome
+
+-- the builds in the order in which they began, what is owed, and whether the input has ended
+pub record State : Type 0 where
+  pub builds : List Building
+  pub owed : List Out
+  pub ended : Bool
+
+-- before any event
+abbrev pub start : State
+start = record { builds = []; owed = []; ended = false }
+
+abbrev pub no_options : Options
+no_options = record {
+  cwd = [];
+  entries = [];
+  write = false;
+  context = false;
+  plugins = [];
+  flags = record { outdir = None; outfile = None; splitting = false; loaders = []; externals = []; conditions = []; entry_names = []; chunk_names = [] };
+}
+
+-- what stands where there is no build
+abbrev pub no_build : Building
+no_build = record { key = 0; options = no_options; waiter = 0; table = []; tasks = []; claimed = 0; claims = []; linker = None; outcome = None }
+
+-- the build of a number
+abbrev pub build_at : List Building → ℕ → Building
+build_at builds n = slice_index_or builds n no_build

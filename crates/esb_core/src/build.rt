@@ -1,0 +1,376 @@
+//! One build.
+ghost use Rattle.std.specs.Prelude.{◌≡◌, ◌+◌, ◌<◌, ◌≤◌, ◌^◌, ◌++◌, ◌∷◌, [], length, not, filter, nat_eq, vec_len, true, None, Some, IfOk, OnOk, OnErr};
+ghost use Rattle.std.specs.List.{list_any};
+ghost use Rattle.std.specs.Option.{option_copied};
+ghost use Rattle.std.specs.Vec.{vec_capacity};
+ghost use Rattle.esb_ask.specs.Table.{fits};
+ghost use Rattle.esb_ask.specs.Tasks.{same_task};
+ghost use Rattle.esb_core.specs.Allowed.{has_claim, has_task, is_linker, is_settled, job_of, may_settle};
+ghost use Rattle.esb_core.specs.Steps.{delivered, entry_tasks, fresh, freed, is_claim, link_claimed, named, named_by, opened, recorded, released, settled, task_claimed, told_record, told_stale, unclaimed};
+
+use crate::event::{Job, Told};
+use crate::view::View;
+use esb_ask::{Answer, Outcome, Product, Question, Resolved, Table, Task};
+use esb_base::{Memory, Shared};
+use esb_flags::Options;
+use std::alloc::Global;
+use std::marker::Model;
+
+/// A build, with its tasks and the answers that it got.
+#[derive(Drop)]
+pub(crate) struct Build {
+    key: u32,
+    options: Shared<Options>,
+    waiter: u32,
+    table: Table,
+    tasks: Vec<Task>,
+    claimed: usize,
+    claims: Vec<(u32, Task)>,
+    linker: Option<u32>,
+    outcome: Option<Outcome>,
+}
+
+impl Model for Build {
+    ghost use Rattle.std.specs.Prelude.{◌≤◌, vec_len, vec_capacity};
+    ghost use Rattle.esb_core.specs.State.{Building};
+
+    ghost Value = { Building };
+
+    ghost view = { λ b. record {
+      key = b.key;
+      options = b.options;
+      waiter = b.waiter;
+      table = b.table;
+      tasks = b.tasks.items;
+      claimed = b.claimed;
+      claims = b.claims.items;
+      linker = b.linker;
+      outcome = b.outcome;
+    } };
+
+    // There is room for the claim of each task that is open.
+    ghost invariant = { λ b. (vec_len b.claims ≤ b.claimed) × (b.claimed ≤ vec_len b.tasks) × (vec_len b.tasks ≤ vec_capacity b.claims) };
+}
+
+/// The tasks of so many entries.
+fn entry_tasks(alloc: Global, entries: usize) -> Result<Vec<Task>, Memory>
+    requires { entries < 2 ^ 32 }
+    ensures { IfOk result (λ tasks. tasks.items ≡ entry_tasks entries) }
+{
+    let mut tasks = Vec::with_capacity(alloc, entries)?;
+    for number in 0..entries as u32 {
+        tasks.push(Task::Entry(number))?;
+    }
+    Ok(tasks)
+}
+
+/// The task that a resolved entry or import names.
+fn named_by(resolved: &Resolved) -> Result<Option<Task>, Memory>
+    ensures { IfOk result (λ t. t ≡ named_by resolved.now) }
+{
+    match resolved {
+        Resolved::To { name, marked: _ } => Ok(Some(Task::Load(name.share()?))),
+        Resolved::External => Ok(None),
+        Resolved::Left => Ok(None),
+        Resolved::Refused(_) => Ok(None),
+    }
+}
+
+/// The task that a product names.
+fn named(product: &Product) -> Result<Option<Task>, Memory>
+    ensures { IfOk result (λ t. t ≡ named product.now) }
+{
+    match product {
+        Product::Entry(resolved) => named_by(resolved),
+        Product::Load(_) => Ok(None),
+    }
+}
+
+/// Whether the task is among these.
+fn has_task(tasks: &[Task], task: &Task) -> bool
+    ensures { result ≡ list_any (same_task task.now) tasks.now }
+{
+    tasks.iter().any(|other| task.is(other))
+}
+
+/// Whether a claim is this worker's, of this task.
+fn is_claim(claim: &(u32, Task), worker: u32, task: &Task) -> bool
+    ensures { result ≡ is_claim worker task.now claim.now }
+{
+    claim.0 == worker && claim.1.is(task)
+}
+
+/// Whether a worker has a claim.
+fn claims_any(claims: &[(u32, Task)], worker: u32) -> bool
+    ensures { result ≡ list_any (λ claim. nat_eq claim.0 worker) claims.now }
+{
+    claims.iter().any(|claim| claim.0 == worker)
+}
+
+/// The claim of a task ends.
+fn end_claim(claims: &mut Vec<(u32, Task)>, worker: u32, task: &Task)
+    ensures after { claims.new.items ≡ filter (λ claim. not (is_claim worker task.now claim)) claims.old.items }
+    ensures bound { vec_len claims.new ≤ vec_len claims.old }
+    ensures capacity { vec_capacity claims.new ≡ vec_capacity claims.old }
+{
+    claims.retain(|claim| !is_claim(claim, worker, task));
+}
+
+/// A worker's claims end.
+fn end_claims(claims: &mut Vec<(u32, Task)>, worker: u32)
+    ensures after { claims.new.items ≡ filter (λ claim. not (nat_eq claim.0 worker)) claims.old.items }
+    ensures bound { vec_len claims.new ≤ vec_len claims.old }
+    ensures capacity { vec_capacity claims.new ≡ vec_capacity claims.old }
+{
+    claims.retain(|claim| claim.0 != worker);
+}
+
+/// Who has claimed the link, once this worker's claims have ended.
+fn freed(linker: Option<u32>, worker: u32) -> Option<u32>
+    ensures { result ≡ freed worker linker }
+{
+    match linker {
+        Some(linker) if linker != worker => Some(linker),
+        _ => None,
+    }
+}
+
+impl Build {
+    /// A build of these options, which the request with this id waits for.
+    pub(crate) fn new(
+        alloc: Global,
+        waiter: u32,
+        key: u32,
+        options: Shared<Options>,
+    ) -> Result<Build, Memory>
+        requires { length options.entries < 2 ^ 32 }
+        ensures { IfOk result (λ b. b ≡ fresh waiter key options) }
+    {
+        let tasks = entry_tasks(alloc, options.get().entries.len())?;
+        let claims = Vec::with_capacity(alloc, tasks.len())?;
+        Ok(Build {
+            key,
+            options,
+            waiter,
+            table: Table::new(alloc),
+            tasks,
+            claimed: 0,
+            claims,
+            linker: None,
+            outcome: None,
+        })
+    }
+
+    pub(crate) fn key(&self) -> u32
+        ensures { result ≡ self.now.key }
+    {
+        self.key
+    }
+
+    pub(crate) fn options(&self) -> &Shared<Options>
+        ensures { result.now ≡ self.now.options }
+    {
+        &self.options
+    }
+
+    pub(crate) fn waiter(&self) -> u32
+        ensures { result ≡ self.now.waiter }
+    {
+        self.waiter
+    }
+
+    pub(crate) fn table(&self) -> &Table
+        ensures { result.now ≡ self.now.table }
+    {
+        &self.table
+    }
+
+    pub(crate) fn outcome(&self) -> Option<&Outcome>
+        ensures { option_copied result ≡ self.now.outcome }
+    {
+        self.outcome.as_ref()
+    }
+
+    pub(crate) fn is_settled(&self) -> bool
+        ensures { result ≡ is_settled self.now }
+    {
+        self.outcome.is_some()
+    }
+
+    /// The first open job of this build, whose number is told.
+    pub(crate) fn job(&self, build: u32) -> Result<Option<Job>, Memory>
+        ensures { IfOk result (λ job. job ≡ job_of build self.now) }
+    {
+        if self.outcome.is_some() {
+            return Ok(None);
+        }
+        match self.tasks.get(self.claimed) {
+            Some(task) => Ok(Some(Job::Scan {
+                build,
+                task: task.share()?,
+            })),
+            None if self.claims.is_empty() && self.linker.is_none() => {
+                Ok(Some(Job::Link { build }))
+            }
+            None => Ok(None),
+        }
+    }
+
+    /// Whether a worker has claimed a task.
+    pub(crate) fn has_task(&self, worker: u32, task: &Task) -> bool
+        ensures { result ≡ has_task self.now worker task.now }
+    {
+        self.claims
+            .iter()
+            .any(|claim| claim.0 == worker && claim.1.is(task))
+    }
+
+    /// Whether a worker has claimed the link.
+    pub(crate) fn is_linker(&self, worker: u32) -> bool
+        ensures { result ≡ is_linker self.now.linker worker }
+    {
+        match self.linker {
+            None => false,
+            Some(linker) => linker == worker,
+        }
+    }
+
+    /// Whether a worker has any claim.
+    pub(crate) fn has_claim(&self, worker: u32) -> bool
+        ensures { result ≡ has_claim self.now worker }
+    {
+        claims_any(&self.claims, worker) || self.is_linker(worker)
+    }
+
+    /// Whether a worker may settle the build so.
+    pub(crate) fn may_settle(&self, worker: u32, outcome: &Outcome) -> bool
+        ensures { result ≡ may_settle self.now worker outcome.now }
+    {
+        match outcome {
+            Outcome::Files(_) => self.is_linker(worker),
+            Outcome::Errors(_) => self.is_linker(worker),
+            Outcome::Canceled => false,
+            Outcome::Memory => self.has_claim(worker),
+        }
+    }
+
+    /// What can be seen of this build.
+    pub(crate) fn view(&self) -> Result<View, Memory>
+        ensures key { IfOk result (λ view. view.key ≡ self.now.key) }
+        ensures options { IfOk result (λ view. view.options ≡ self.now.options) }
+        ensures outcome { IfOk result (λ view. view.outcome ≡ self.now.outcome) }
+    {
+        let options = self.options.share()?;
+        let outcome = match &self.outcome {
+            None => None,
+            Some(outcome) => Some(outcome.share()?),
+        };
+        Ok(View {
+            key: self.key,
+            options,
+            outcome,
+        })
+    }
+
+    /// The first open task goes to a worker. It takes no memory.
+    pub(crate) fn claim_task(&mut self, worker: u32, task: Task)
+        requires { self.old.claimed < length self.old.tasks }
+        ensures { self.new ≡ task_claimed self.old worker task }
+    {
+        self.claims.push_reserved((worker, task));
+        self.claimed += 1;
+    }
+
+    /// The link goes to a worker.
+    pub(crate) fn claim_link(&mut self, worker: u32)
+        ensures { self.new ≡ link_claimed self.old worker }
+    {
+        self.linker = Some(worker);
+    }
+
+    /// Keeps the first answer to a question, unless the build is settled.
+    pub(crate) fn record(&mut self, question: Question, answer: Answer) -> Result<Told, Memory>
+        requires { fits question answer ≡ true }
+        ensures told { IfOk result (λ t. t ≡ told_record self.old question answer self.old.outcome) }
+        ensures ok { OnOk result (self.new ≡ recorded self.old question answer self.old.outcome) }
+        ensures err { OnErr result (self.new ≡ self.old) }
+    {
+        if self.outcome.is_some() {
+            return Ok(Told::Stale);
+        }
+        Ok(Told::Kept(self.table.put(question, answer)?))
+    }
+
+    /// The claim of a task ends.
+    fn unclaim(&mut self, worker: u32, task: &Task)
+        ensures { self.new ≡ unclaimed self.old worker task.now }
+    {
+        end_claim(&mut self.claims, worker, task);
+    }
+
+    /// A task is opened if it is new, with room for its claim.
+    fn open(&mut self, task: Option<Task>) -> Result<(), Memory>
+        ensures ok { OnOk result (self.new ≡ record self.old { tasks = opened self.old.tasks task }) }
+        ensures err { OnErr result (self.new ≡ self.old) }
+    {
+        let Some(task) = task else {
+            return Ok(());
+        };
+        if has_task(&self.tasks, &task) {
+            return Ok(());
+        }
+        self.open_new(task)
+    }
+
+    fn open_new(&mut self, task: Task) -> Result<(), Memory>
+        ensures ok { OnOk result (self.new ≡ record self.old { tasks = self.old.tasks ++ task ∷ [] }) }
+        ensures err { OnErr result (self.new ≡ self.old) }
+    {
+        let more = self.tasks.len() - self.claims.len();
+        let more = more.checked_add(1).ok_or(Memory)?;
+        self.claims.reserve(more)?;
+        self.tasks.push(task)?;
+        Ok(())
+    }
+
+    /// A task is done. What its product names is opened, unless the build is settled.
+    pub(crate) fn deliver(
+        &mut self,
+        worker: u32,
+        task: &Task,
+        product: &Product,
+    ) -> Result<Told, Memory>
+        ensures told { IfOk result (λ t. t ≡ told_stale self.old.outcome) }
+        ensures ok { OnOk result (self.new ≡ delivered self.old worker task.now product.now self.old.outcome) }
+        ensures err { OnErr result (self.new ≡ self.old) }
+    {
+        if self.is_settled() {
+            self.unclaim(worker, task);
+            return Ok(Told::Stale);
+        }
+        self.open(named(product)?)?;
+        self.unclaim(worker, task);
+        Ok(Told::Done)
+    }
+
+    /// A worker's claims end.
+    fn release(&mut self, worker: u32)
+        ensures { self.new ≡ released self.old worker }
+    {
+        end_claims(&mut self.claims, worker);
+        self.linker = freed(self.linker, worker);
+    }
+
+    /// Ends the build, if it isn't settled, and the worker's claims. It takes no memory.
+    pub(crate) fn settle(&mut self, worker: u32, outcome: Outcome) -> Told
+        ensures told { result ≡ told_stale self.old.outcome }
+        ensures after { self.new ≡ settled self.old worker outcome self.old.outcome }
+    {
+        self.release(worker);
+        if self.is_settled() {
+            return Told::Stale;
+        }
+        self.outcome = Some(outcome);
+        Told::Done
+    }
+}

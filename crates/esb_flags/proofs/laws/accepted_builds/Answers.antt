@@ -1,0 +1,5 @@
+use Rattle.esb_flags.proofs.Accepts.{accepted}
+use Rattle.esb_flags.proofs.laws.accepted_builds.Goals as goal
+
+pub returns : goal.returns
+returns c = accepted

@@ -1,0 +1,3 @@
+pub mod RunSteps
+pub mod UnitSteps
+pub mod Answered

@@ -1,0 +1,12 @@
+use Rattle.std.proofs.Common.{rules}
+use Rattle.esb_token.specs.Tokens.{next}
+use Rattle.esb_lex.proofs.Answered.{answered_literal, answered_last}
+use Rattle.esb_lex.proofs.read.next.Goals as goal
+
+pub returns-clause-literal : goal.returns-clause-literal
+unfolding next
+returns-clause-literal c = answered_literal c.args.contents.now c.args.at c.args.goal _ (search rules)
+
+pub returns-clause-last : goal.returns-clause-last
+unfolding next
+returns-clause-last c = answered_last c.args.contents.now c.args.at c.args.goal _ c.requires (search rules)

@@ -1,0 +1,136 @@
+-- What a task asks over a table of answers, or else what it gives.
+use Rattle.std.specs.Prelude.{◌≡◌, ℕ, Bool, true, false, List, [], ◌∷◌, ◌++◌, Option, Some, None, slice_get, codes}
+use Rattle.esb_base.specs.declared.file_name.FileName.{FileName}
+use Rattle.esb_flags.specs.declared.options.Options.{Options}
+use Rattle.esb_ask.specs.declared.question.Question.{Question}
+use Rattle.esb_ask.specs.declared.question.Question.TheVariants as question
+use Rattle.esb_ask.specs.declared.answer.Answer.{Answer}
+use Rattle.esb_ask.specs.declared.answer.Answer.TheVariants as answer
+use Rattle.esb_ask.specs.declared.task.Task.{Task}
+use Rattle.esb_ask.specs.declared.task.Task.TheVariants as task
+use Rattle.esb_ask.specs.declared.message.Message.{Message}
+use Rattle.esb_ask.specs.declared.product.Product.{Product}
+use Rattle.esb_ask.specs.declared.product.Product.TheVariants as product
+use Rattle.esb_ask.specs.declared.product.Resolved.{Resolved}
+use Rattle.esb_ask.specs.declared.product.Resolved.TheVariants as resolved
+use Rattle.esb_ask.specs.declared.product.Loaded.{Loaded}
+use Rattle.esb_ask.specs.declared.product.Loaded.TheVariants as loaded
+use Rattle.esb_ask.specs.Table.{answer_to}
+use Rattle.esb_scan.specs.declared.run.Run.{Run}
+use Rattle.esb_scan.specs.declared.run.Run.TheVariants as run_of
+use Rattle.esb_scan.specs.Paths.{below}
+
+-- ---- questions
+
+abbrev pub ask_or : Option Answer → Question → (Answer → Product) → Run
+ask_or None asked product_by = run_of.Asks asked
+ask_or (Some first) asked product_by = run_of.Done (product_by first)
+
+-- a question, or where the table has its answer the product by that answer
+abbrev pub ask : List (Question × Answer) → Question → (Answer → Product) → Run
+ask table asked product_by = ask_or (answer_to table asked) asked product_by
+
+-- ---- messages
+
+-- a message without a place
+abbrev pub unplaced : List ℕ → Message
+unplaced text = record { text = text; file = []; line = 0; column = 0; length = 0 }
+
+abbrev pub cannot_read : List ℕ → Message
+cannot_read path = unplaced (codes "Cannot read " ++ path)
+
+-- 34 is a quotation mark
+abbrev pub not_found : List ℕ → Message
+not_found spec = unplaced (codes "Could not resolve " ++ 34 ∷ spec ++ 34 ∷ codes ": not found")
+
+-- ---- entries
+
+-- the path of an entry's file
+abbrev pub entry_path : Options → List ℕ × List ℕ → List ℕ
+entry_path options entry = below options.cwd entry.1
+
+-- a file of the system
+abbrev pub system_file : List ℕ → FileName
+system_file path = record { namespace = codes "file"; path = path }
+
+-- where an entry leads by what lies at its path
+abbrev pub resolved_by : List ℕ → List ℕ → Answer → Resolved
+resolved_by path spec answer.File = resolved.To (system_file path) false
+resolved_by path spec answer.Folder = resolved.Refused (not_found spec)
+resolved_by path spec answer.Missing = resolved.Refused (not_found spec)
+resolved_by path spec answer.TooBig = resolved.Refused (not_found spec)
+resolved_by path spec answer.Fault = resolved.Refused (cannot_read path)
+resolved_by path spec (answer.Bytes contents) = resolved.Refused (not_found spec)
+
+-- the run for an entry
+abbrev pub run_entry : Options → List (Question × Answer) → List ℕ × List ℕ → Run
+run_entry options table entry =
+    let path = entry_path options entry in
+    ask table (question.Kind path) (λ first. product.Entry (resolved_by path entry.1 first))
+
+abbrev pub run_numbered : Options → List (Question × Answer) → Option (List ℕ × List ℕ) → Run
+run_numbered options table None = run_of.Done (product.Entry resolved.Left)
+run_numbered options table (Some entry) = run_entry options table entry
+
+-- ---- loads
+
+-- what the loading gives by what the file has
+abbrev pub loaded_by : List ℕ → Answer → Loaded
+loaded_by path answer.File = loaded.Refused (cannot_read path)
+loaded_by path answer.Folder = loaded.Refused (cannot_read path)
+loaded_by path answer.Missing = loaded.Refused (cannot_read path)
+loaded_by path answer.TooBig = loaded.Refused (cannot_read path)
+loaded_by path answer.Fault = loaded.Refused (cannot_read path)
+loaded_by path (answer.Bytes contents) = loaded.Copied contents
+
+-- the run for a file
+abbrev pub run_load : List (Question × Answer) → FileName → Run
+run_load table name = ask table (question.Read name.path) (λ first. product.Load (loaded_by name.path first))
+
+-- ---- tasks
+
+-- what a task asks over the table, or else what it gives
+abbrev pub run : Options → List (Question × Answer) → Task → Run
+run options table (task.Entry number) = run_numbered options table (slice_get options.entries number)
+run options table (task.Load name) = run_load table name
+
+abbrev pub entry_trail : Options → Option (List ℕ × List ℕ) → List Question
+entry_trail options None = []
+entry_trail options (Some entry) = question.Kind (entry_path options entry) ∷ []
+
+-- the questions that the task meets, up to and with the first that the table lacks: it meets one at most
+abbrev pub trail : Options → List (Question × Answer) → Task → List Question
+trail options table (task.Entry number) = entry_trail options (slice_get options.entries number)
+trail options table (task.Load name) = question.Read name.path ∷ []
+
+-- the further tasks that a product names
+abbrev pub names : Product → List Task
+names (product.Entry (resolved.To name marked)) = task.Load name ∷ []
+names (product.Entry resolved.External) = []
+names (product.Entry resolved.Left) = []
+names (product.Entry (resolved.Refused message)) = []
+names (product.Load loading) = []
+
+-- what a task asks: an entry's what lies at a path, and a load what the file at a path has
+abbrev pub question_fits : Task → Question → Bool
+question_fits (task.Entry number) (question.Kind path) = true
+question_fits (task.Entry number) (question.Read path) = false
+question_fits (task.Load name) (question.Kind path) = false
+question_fits (task.Load name) (question.Read path) = true
+
+-- whether a task loads a file
+abbrev pub is_load : Task → Bool
+is_load (task.Entry number) = false
+is_load (task.Load name) = true
+
+-- whether the task has a product
+abbrev pub is_done : Run → Bool
+is_done (run_of.Asks asked) = false
+is_done (run_of.Done given) = true
+is_done run_of.Memory = false
+
+-- the run is as defined, or memory was refused
+abbrev pub IsRun : Run → Run → Type 0
+IsRun wanted (run_of.Asks asked) = run_of.Asks asked ≡ wanted
+IsRun wanted (run_of.Done given) = run_of.Done given ≡ wanted
+IsRun wanted run_of.Memory = Unit {0}

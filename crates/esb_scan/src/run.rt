@@ -1,0 +1,157 @@
+ghost use Rattle.std.specs.Prelude.{◌≡◌, IfOk};
+ghost use Rattle.esb_scan.specs.Run.{run, run_entry, run_load, resolved_by, loaded_by, unplaced, cannot_read, not_found, system_file, IsRun};
+
+use crate::paths::below;
+use esb_ask::{Answer, Loaded, Message, Product, Question, Resolved, Table, Task};
+use esb_base::{FileName, Memory, Text};
+use esb_flags::Options;
+use std::alloc::Global;
+
+/// What the run of a task gave.
+#[derive(Drop)]
+pub enum Run {
+    /// The first question that the table has no answer to.
+    Asks(Question),
+    /// The task's product.
+    Done(Product),
+    /// Memory was refused.
+    Memory,
+}
+
+fn unplaced(alloc: Global, text: &str) -> Result<Message, Memory>
+    ensures { IfOk result (λ message. message ≡ unplaced text.now) }
+{
+    let text = Text::of(alloc, text)?;
+    let file = Text::of(alloc, "")?;
+    Ok(Message {
+        text,
+        file,
+        line: 0,
+        column: 0,
+        length: 0,
+    })
+}
+
+fn cannot_read(alloc: Global, path: &Text) -> Result<Message, Memory>
+    ensures { IfOk result (λ message. message ≡ cannot_read path.now) }
+{
+    let path = path.as_str();
+    let text = format!(in alloc; "Cannot read {path}")?;
+    unplaced(alloc, text.as_str())
+}
+
+fn not_found(alloc: Global, spec: &Text) -> Result<Message, Memory>
+    ensures { IfOk result (λ message. message ≡ not_found spec.now) }
+{
+    let spec = spec.as_str();
+    let text = format!(in alloc; "Could not resolve \"{spec}\": not found")?;
+    unplaced(alloc, text.as_str())
+}
+
+fn system_file(alloc: Global, path: Text) -> Result<FileName, Memory>
+    ensures { IfOk result (λ name. name ≡ system_file path) }
+{
+    let namespace = Text::of(alloc, "file")?;
+    Ok(FileName { namespace, path })
+}
+
+fn resolved_by(alloc: Global, path: Text, spec: &Text, answer: &Answer) -> Result<Resolved, Memory>
+    ensures { IfOk result (λ resolved. resolved ≡ resolved_by path spec.now answer.now) }
+{
+    match answer {
+        Answer::File => Ok(Resolved::To {
+            name: system_file(alloc, path)?,
+            marked: false,
+        }),
+        Answer::Fault => Ok(Resolved::Refused(cannot_read(alloc, &path)?)),
+        Answer::Folder | Answer::Missing | Answer::TooBig | Answer::Bytes(_) => {
+            Ok(Resolved::Refused(not_found(alloc, spec)?))
+        }
+    }
+}
+
+fn loaded_by(alloc: Global, path: &Text, answer: &Answer) -> Result<Loaded, Memory>
+    ensures { IfOk result (λ loaded. loaded ≡ loaded_by path.now answer.now) }
+{
+    match answer {
+        Answer::Bytes(contents) => Ok(Loaded::Copied(contents.share()?)),
+        Answer::File | Answer::Folder | Answer::Missing | Answer::TooBig | Answer::Fault => {
+            Ok(Loaded::Refused(cannot_read(alloc, path)?))
+        }
+    }
+}
+
+fn try_entry(
+    alloc: Global,
+    options: &Options,
+    table: &Table,
+    entry: &(Text, Text),
+) -> Result<Run, Memory>
+    ensures { IfOk result (λ done. done ≡ run_entry options.now table.now entry.now) }
+{
+    let path = below(alloc, &options.cwd, &entry.1)?;
+    let asked = Question::Kind(path.share()?);
+    match table.get(&asked) {
+        None => Ok(Run::Asks(asked)),
+        Some(answer) => {
+            let resolved = resolved_by(alloc, path, &entry.1, answer)?;
+            Ok(Run::Done(Product::Entry(resolved)))
+        }
+    }
+}
+
+fn try_load(alloc: Global, table: &Table, name: &FileName) -> Result<Run, Memory>
+    ensures { IfOk result (λ done. done ≡ run_load table.now name.now) }
+{
+    let asked = Question::Read(name.path.share()?);
+    match table.get(&asked) {
+        None => Ok(Run::Asks(asked)),
+        Some(answer) => {
+            let loaded = loaded_by(alloc, &name.path, answer)?;
+            Ok(Run::Done(Product::Load(loaded)))
+        }
+    }
+}
+
+fn try_task(alloc: Global, options: &Options, table: &Table, task: &Task) -> Result<Run, Memory>
+    ensures { IfOk result (λ done. done ≡ run options.now table.now task.now) }
+{
+    match task {
+        Task::Entry(number) => match options.entries.get(*number as usize) {
+            None => Ok(Run::Done(Product::Entry(Resolved::Left))),
+            Some(entry) => try_entry(alloc, options, table, entry),
+        },
+        Task::Load(name) => try_load(alloc, table, name),
+    }
+}
+
+/// The run for an entry: its output path and its in text. The task of an entry's number does the same.
+pub fn run_entry(alloc: Global, options: &Options, table: &Table, entry: &(Text, Text)) -> Run
+    ensures { IsRun (run_entry options.now table.now entry.now) result }
+{
+    match try_entry(alloc, options, table, entry) {
+        Ok(done) => done,
+        Err(Memory) => Run::Memory,
+    }
+}
+
+/// The run for a file. The task that loads it does the same.
+pub fn run_load(alloc: Global, table: &Table, name: &FileName) -> Run
+    ensures { IsRun (run_load table.now name.now) result }
+{
+    match try_load(alloc, table, name) {
+        Ok(done) => done,
+        Err(Memory) => Run::Memory,
+    }
+}
+
+/// Runs a task over the answers so far: the first question that they lack, or else the task's product. It answers `Memory` only
+/// where memory was refused.
+pub fn run_task(alloc: Global, options: &Options, table: &Table, task: &Task) -> Run
+    ensures { IsRun (run options.now table.now task.now) result }
+{
+    match try_task(alloc, options, table, task) {
+        Ok(done) => done,
+        Err(Memory) => Run::Memory,
+    }
+}

@@ -1,0 +1,183 @@
+-- Each task of a build that isn't settled is open, or claimed, or has its product.
+use Rattle.std.proofs.Common.{◌≡◌, ℕ, zero, suc, ◌+◌, ◌<◌, ◌≤◌, ◌⊎◌, inl, inr, Bool, true, false, not, ◌&&◌, List, [], ◌∷◌, ◌++◌, length, Option, None, Some, refl, sym, ap, subst, ◌∙◌, arith, nat_eq, slice_get}
+use Rattle.std.specs.Prelude.{filter, is_none}
+use Rattle.std.specs.List.{list_any}
+use Rattle.std.proofs.lemmas.Option.{slice_get_within}
+use Rattle.esb_base.specs.declared.file_name.FileName.{FileName}
+use Rattle.esb_flags.specs.declared.options.Options.{Options}
+use Rattle.esb_ask.specs.declared.question.Question.{Question}
+use Rattle.esb_ask.specs.declared.answer.Answer.{Answer}
+use Rattle.esb_ask.specs.declared.task.Task.{Task}
+use Rattle.esb_ask.specs.declared.task.Task.TheVariants as task
+use Rattle.esb_ask.specs.declared.product.Product.{Product}
+use Rattle.esb_ask.specs.declared.product.Product.TheVariants as product
+use Rattle.esb_ask.specs.declared.product.Resolved.TheVariants as resolved
+use Rattle.esb_ask.specs.declared.outcome.Outcome.{Outcome}
+use Rattle.esb_ask.specs.Table.{kept}
+use Rattle.esb_ask.specs.Tasks.{same_task}
+use Rattle.esb_ask.proofs.Tables.{kept_extends}
+use Rattle.esb_core.specs.declared.event.Job.TheVariants as job
+use Rattle.esb_core.specs.State.{Building}
+use Rattle.esb_core.specs.Steps
+use Rattle.esb_core.specs.Steps.{named, opened, is_claim, task_claimed, link_claimed, recorded, delivered, settled}
+use Rattle.esb_core.specs.Allowed.{job_of}
+use Rattle.esb_core.proofs.Claims.{job-fits, both_parts}
+use Rattle.esb_scan.specs.declared.run.Run.TheVariants as run_of
+use Rattle.esb_scan.specs.Run.{run, run_numbered, is_done}
+use Rattle.esb_scan.specs.Complete.{IsComplete}
+use Rattle.esb_scan.proofs.Runs.{run_same}
+use Rattle.esb_sound.proofs.Tasks.{below_or_last, any-left, ended, place-of, entry-among, opened-keeps, opened-has, opened-get, opened-longer, stands, stands-push, stands-after, none_stand}
+
+-- a task has its product, and what that names is among the tasks
+pub record IsFinished (options : Options) (table : List (Question × Answer)) (tasks : List Task) (t : Task) : Type 0 where
+  pub product : Product
+  pub given : run options table t ≡ run_of.Done product
+  pub leads : (u : Task) → named product ≡ Some u → list_any (same_task u) tasks ≡ true
+
+pub record IsOnWay (b : Building) : Type 0 where
+  pub entries : (number : ℕ) → number < length b.options.entries → list_any (same_task (task.Entry number)) b.tasks ≡ true
+  pub within : b.claimed ≤ length b.tasks
+  pub taken : (i : ℕ) (t : Task) → i < b.claimed → slice_get b.tasks i ≡ Some t → (stands b.claims t ≡ true) ⊎ IsFinished b.options b.table b.tasks t
+
+-- of a settled build nothing is said
+abbrev pub OnWay : Building → Type 0
+OnWay b = b.outcome ≡ None → IsOnWay b
+
+settled_is_not : {X : Type 0} (o : Outcome) → Some o ≡ None → X
+settled_is_not o e = absurd (let f : ⊥ = cc in f)
+
+-- ---- each change of a build
+
+pub fresh-on_way : (id key : ℕ) (options : Options) → OnWay (Steps.fresh id key options)
+fresh-on_way id key options none = record {
+  entries = λ number lt. entry-among (length options.entries) 0 number (omega arith) (omega arith);
+  within = omega arith;
+  taken = λ i t lt at. absurd (omega arith);
+}
+
+pub task-claimed : (b : Building) (worker : ℕ) (t : Task) → slice_get b.tasks b.claimed ≡ Some t → IsOnWay b → IsOnWay (task_claimed b worker t)
+task-claimed b worker t first h = record {
+  entries = h.entries;
+  within = let lt = slice_get_within b.tasks b.claimed t first in omega arith;
+  taken = λ i u lt at. by i u at (below_or_last i b.claimed lt);
+}
+  where
+    before : (u : Task) → (stands b.claims u ≡ true) ⊎ IsFinished b.options b.table b.tasks u → (stands (b.claims ++ (worker, t) ∷ []) u ≡ true) ⊎ IsFinished b.options b.table b.tasks u
+    before u (inl claim) = inl (any-left (λ c. same_task c.1 u) b.claims ((worker, t) ∷ []) claim)
+    before u (inr done) = inr done
+
+    by : (i : ℕ) (u : Task) → slice_get b.tasks i ≡ Some u → (i < b.claimed) ⊎ (i ≡ b.claimed) → (stands (b.claims ++ (worker, t) ∷ []) u ≡ true) ⊎ IsFinished b.options b.table b.tasks u
+    by i u at (inl lt) = before u (h.taken i u lt at)
+    by i u at (inr last) =
+        let also : Some t ≡ Some u = sym first ∙ ap (λ (k : ℕ). slice_get b.tasks k) (sym last) ∙ at in
+        let same : t ≡ u = cc in
+        inl (subst (λ (v : Task). stands (b.claims ++ (worker, t) ∷ []) v ≡ true) same (stands-push b.claims worker t))
+
+pub link-claimed : (b : Building) (worker : ℕ) → IsOnWay b → IsOnWay (link_claimed b worker)
+link-claimed b worker h = record { entries = h.entries; within = h.within; taken = h.taken }
+
+kept-on_way : (b : Building) (q : Question) (a : Answer) → IsOnWay b → IsOnWay (record b { table = kept b.table q a })
+kept-on_way b q a h = record { entries = h.entries; within = h.within; taken = λ i t lt at. by t (h.taken i t lt at) }
+  where
+    by : (t : Task) → (stands b.claims t ≡ true) ⊎ IsFinished b.options b.table b.tasks t → (stands b.claims t ≡ true) ⊎ IsFinished b.options (kept b.table q a) b.tasks t
+    by t (inl claim) = inl claim
+    by t (inr done) = inr (record {
+      product = done.product;
+      given = run_same b.options b.table (kept b.table q a) t done.product (kept_extends b.table q a) done.given;
+      leads = done.leads;
+    })
+
+pub recorded-on_way : (b : Building) (q : Question) (a : Answer) → OnWay b → OnWay (recorded b q a b.outcome)
+recorded-on_way b q a h = by b.outcome refl
+  where
+    by : (o : Option Outcome) → b.outcome ≡ o → OnWay (recorded b q a o)
+    by None is none = kept-on_way b q a (h is)
+    by (Some o) is none = h none
+
+opened-on_way : (b : Building) (worker : ℕ) (t : Task) (p : Product) → run b.options b.table t ≡ run_of.Done p → IsOnWay b
+    → IsOnWay (record (Steps.unclaimed b worker t) { tasks = opened b.tasks (named p) })
+opened-on_way b worker t p given h = record {
+  entries = λ number lt. opened-keeps b.tasks (named p) (task.Entry number) (h.entries number lt);
+  within = let more = opened-longer b.tasks (named p) in let less = h.within in omega arith;
+  taken = λ i u lt at.
+      let inside : i < length b.tasks = let less = h.within in omega arith in
+      by u (h.taken i u lt (sym (opened-get b.tasks (named p) i inside) ∙ at));
+}
+  where
+    left : List (ℕ × Task)
+    left = filter (λ claim. not (is_claim worker t claim)) b.claims
+
+    delivers : (u : Task) → (stands left u ≡ true) ⊎ (u ≡ t) → (stands left u ≡ true) ⊎ IsFinished b.options b.table (opened b.tasks (named p)) u
+    delivers u (inl claim) = inl claim
+    delivers u (inr same) = inr (record {
+      product = p;
+      given = ap (λ (v : Task). run b.options b.table v) same ∙ given;
+      leads = λ v names. opened-has b.tasks (named p) v names;
+    })
+
+    by : (u : Task) → (stands b.claims u ≡ true) ⊎ IsFinished b.options b.table b.tasks u → (stands left u ≡ true) ⊎ IsFinished b.options b.table (opened b.tasks (named p)) u
+    by u (inl claim) = delivers u (stands-after b.claims worker t u claim)
+    by u (inr done) = inr (record {
+      product = done.product;
+      given = done.given;
+      leads = λ v names. opened-keeps b.tasks (named p) v (done.leads v names);
+    })
+
+pub delivered-on_way : (b : Building) (worker : ℕ) (t : Task) (p : Product) → run b.options b.table t ≡ run_of.Done p → OnWay b → OnWay (delivered b worker t p b.outcome)
+delivered-on_way b worker t p given h = by b.outcome refl
+  where
+    by : (o : Option Outcome) → b.outcome ≡ o → OnWay (delivered b worker t p o)
+    by None is none = opened-on_way b worker t p given (h is)
+    by (Some o) is none = settled_is_not o (sym is ∙ none)
+
+pub settled-on_way : (b : Building) (worker : ℕ) (o : Outcome) → OnWay (settled b worker o b.outcome)
+settled-on_way b worker o = by b.outcome refl
+  where
+    by : (p : Option Outcome) → b.outcome ≡ p → OnWay (settled b worker o p)
+    by None is none = settled_is_not o none
+    by (Some p) is none = settled_is_not p (sym is ∙ none)
+
+-- ---- the link
+
+-- where the link is open, each task is finished
+all-finished : (b : Building) (t : Task) → IsOnWay b → slice_get b.tasks b.claimed ≡ None → nat_eq (length b.claims) 0 ≡ true → list_any (same_task t) b.tasks ≡ true → IsFinished b.options b.table b.tasks t
+all-finished b t h over none among =
+    let at = place-of b.tasks t among in
+    let inside : at.place < length b.tasks = slice_get_within b.tasks at.place t at.there in
+    let last : length b.tasks ≤ b.claimed = ended b.tasks b.claimed over in
+    by (h.taken at.place t (omega arith) at.there)
+  where
+    by : (stands b.claims t ≡ true) ⊎ IsFinished b.options b.table b.tasks t → IsFinished b.options b.table b.tasks t
+    by (inl claim) = absurd (none_stand b.claims t none claim)
+    by (inr done) = done
+
+is-complete : (b : Building) → IsOnWay b → ((t : Task) → list_any (same_task t) b.tasks ≡ true → IsFinished b.options b.table b.tasks t) → IsComplete b.options b.table
+is-complete b h finished = record {
+  entries = λ number lt. done_of (task.Entry number) (finished (task.Entry number) (h.entries number lt));
+  loads = λ number name marked e. by number name marked e (slice_get b.options.entries number) refl;
+}
+  where
+    done_of : (t : Task) → IsFinished b.options b.table b.tasks t → is_done (run b.options b.table t) ≡ true
+    done_of t f = ap is_done f.given
+
+    load_of : (number : ℕ) (p : Product) (u : Task) → run b.options b.table (task.Entry number) ≡ run_of.Done p → named p ≡ Some u → IsFinished b.options b.table b.tasks (task.Entry number)
+        → is_done (run b.options b.table u) ≡ true
+    load_of number p u e names f =
+        let also : run_of.Done f.product ≡ run_of.Done p = sym f.given ∙ e in
+        let same : f.product ≡ p = cc in
+        done_of u (finished u (f.leads u (ap named same ∙ names)))
+
+    by : (number : ℕ) (name : FileName) (marked : Bool) → run b.options b.table (task.Entry number) ≡ run_of.Done (product.Entry (resolved.To name marked)) → (entry : Option (List ℕ × List ℕ))
+        → slice_get b.options.entries number ≡ entry → is_done (run b.options b.table (task.Load name)) ≡ true
+    by number name marked e None at =
+        let left : run_of.Done (product.Entry resolved.Left) ≡ run_of.Done (product.Entry (resolved.To name marked)) = ap (λ (o : Option (List ℕ × List ℕ)). run_numbered b.options b.table o) (sym at) ∙ e in
+        absurd (let f : ⊥ = cc in f)
+    by number name marked e (Some entry) at =
+        load_of number (product.Entry (resolved.To name marked)) (task.Load name) e refl
+        (finished (task.Entry number) (h.entries number (slice_get_within b.options.entries number entry at)))
+
+pub link-complete : (n : ℕ) (b : Building) → OnWay b → job_of n b ≡ Some (job.Link n) → IsComplete b.options b.table
+link-complete n b h open_link =
+    let f = job-fits n b (job.Link n) open_link in
+    let parts = both_parts (nat_eq (length b.claims) 0) (is_none b.linker) f.3 in
+    is-complete b (h f.1) (λ t among. all-finished b t (h f.1) f.2 parts.0 among)

@@ -1,0 +1,5 @@
+pub mod Builds
+pub mod Finished
+pub mod Links
+pub mod Owed
+pub mod Tasks

@@ -1,0 +1,5 @@
+pub mod Each
+pub mod Sound
+pub mod Sent
+pub mod Told
+pub mod Ready

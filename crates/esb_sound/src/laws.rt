@@ -1,0 +1,25 @@
+//! Laws over every list of events. Each function's contract is the law, and its body does nothing.
+
+ghost use Rattle.std.specs.Prelude.{◌≡◌, ◌<◌, ◌^◌, ℕ, List, true, Some, slice_get};
+ghost use Rattle.esb_core.specs.declared.event.Event.{Event};
+ghost use Rattle.esb_core.specs.declared.event.Job.TheVariants as jobs;
+ghost use Rattle.esb_core.specs.declared.out.Out.{Out};
+ghost use Rattle.esb_core.specs.Allowed.{job_of};
+ghost use Rattle.esb_core.specs.History.{is_legal, replay};
+ghost use Rattle.esb_core.specs.State.{build_at};
+ghost use Rattle.esb_scan.specs.Complete.{IsComplete};
+ghost use Rattle.esb_sound.specs.Sound.{Sound};
+ghost use Rattle.esb_sound.specs.Ready.{IsReady};
+
+/// Where a build's link is open, its answers are complete.
+pub fn links_are_ready()
+    ensures { (events : List Event) (n : ℕ) → is_legal events ≡ true → Sound events
+        → job_of n (build_at (replay events).builds n) ≡ Some (jobs.Link n)
+        → IsComplete (build_at (replay events).builds n).options (build_at (replay events).builds n).table }
+{}
+
+/// What is owed answers a request's id, and a result is of a build that is settled.
+pub fn replies_are_ready()
+    ensures { (events : List Event) (out : Out) → is_legal events ≡ true
+        → slice_get (replay events).owed 0 ≡ Some out → IsReady (replay events).builds out }
+{}

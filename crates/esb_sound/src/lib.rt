@@ -1,0 +1,6 @@
+//! What makes a history right: its work, what it sends, and what the outside gave.
+#![tactic(auto)]
+
+mod laws;
+
+pub use laws::{links_are_ready, replies_are_ready};

@@ -1,0 +1,3 @@
+pub mod KindsGiven
+pub mod GoalsAgree
+pub mod TokenKinds

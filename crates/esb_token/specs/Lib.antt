@@ -1,0 +1,12 @@
+pub mod Goals
+pub mod Runs
+pub mod Characters
+pub mod Gaps
+pub mod Names
+pub mod Numbers
+pub mod Strings
+pub mod Templates
+pub mod RegExps
+pub mod Punctuators
+pub mod Tokens
+pub mod Laws

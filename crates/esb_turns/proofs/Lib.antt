@@ -1,0 +1,11 @@
+pub mod Sums
+pub mod Prefixes
+pub mod Line
+pub mod TicketSteps
+pub mod PassOnSteps
+pub mod ShareSteps
+pub mod SameTurn
+pub mod Whole
+pub mod WholeCount
+pub mod Owning
+pub mod OnlyMine
