@@ -38,7 +38,7 @@ is_proper (suc depth) value = node_ok (is_proper depth) (out-Value value)
 abbrev pub id_limit : ℕ
 id_limit = 2147483648
 
-abbrev pub may_arrive : Packet → Bool
+unfoldable pub may_arrive : Packet → Bool
 may_arrive packet = nat_lt packet.id id_limit && is_proper max_depth packet.value
 
 -- ---- jobs

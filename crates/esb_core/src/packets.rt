@@ -82,6 +82,7 @@ fn is_proper(depth: u32, value: &Value) -> bool
 }
 
 /// Whether the packet may arrive.
+#[tactic(auto, unfolding(crate::specs::Allowed::may_arrive))]
 pub(crate) fn may_arrive(packet: &Packet) -> bool
     ensures { result ≡ may_arrive packet.now }
 {

@@ -178,6 +178,7 @@ pops_one s h = record { waiters = h.waiters; owed = all-rest (IsReady s.builds) 
 
 -- each step of an allowed event
 ready-step : (s : State) (e : Event) → AreReady s → allowed s e ≡ true → AreReady (after s e)
+unfolding may_arrive
 ready-step s (event.Arrive packet) h may =
     let parts = both_parts (not s.ended) (may_arrive packet) may in
     let fit = both_parts (nat_lt packet.id id_limit) (is_proper max_depth packet.value) parts.1 in

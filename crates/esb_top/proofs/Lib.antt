@@ -1,0 +1,6 @@
+pub mod Histories
+pub mod Outputs
+pub mod Proper
+pub mod Sessions
+pub mod Turns
+pub mod Working

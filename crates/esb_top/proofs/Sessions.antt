@@ -1,0 +1,216 @@
+-- A session is as promised.
+use Rattle.std.proofs.Common.{◌≡◌, ℕ, ◌+◌, ◌≤◌, Bool, true, false, not, ◌||◌, List, [], ◌∷◌, ◌++◌, inl, inr, refl, sym, ap, subst, ◌∙◌, arith, eqb}
+use Rattle.std.specs.List.{flat_map}
+use Rattle.std.proofs.lemmas.Bool.{false≢true}
+use Rattle.std.specs.Prelude.{Result, Ok, Err, IfOk, OnErr}
+use Rattle.esb_base.specs.Faults.{Rose}
+use Rattle.esb_base.specs.declared.memory.Memory.{Memory}
+use Rattle.esb_wire.specs.declared.value.Packet.{Packet}
+use Rattle.esb_wire.specs.Spelling.{frame}
+use Rattle.esb_wire.specs.Stream.{BeginsWithNone}
+use Rattle.esb_wire.specs.Written.{written_frame}
+use Rattle.esb_core.specs.declared.event.Event.{Event}
+use Rattle.esb_core.specs.declared.event.Event.TheVariants as events
+use Rattle.esb_core.specs.History.{is_legal}
+use Rattle.esb_sound.specs.Sound.{Sound, IsSound}
+use Rattle.esb_sound.specs.Sent.{arrivals, sent, sent_packets}
+use Rattle.esb_sound.specs.Told.{AreTold, IsTold, RoseBy, faults}
+use Rattle.esb_top.specs.declared.session.Ending.{Ending}
+use Rattle.esb_top.specs.declared.session.Ending.TheVariants as endings
+use Rattle.esb_top.specs.Entries.{Entries}
+use Rattle.esb_top.specs.Input.{EndsBy}
+use Rattle.esb_top.specs.Output.{IsWritten, Wrote, FailedSince}
+use Rattle.esb_top.specs.Serving.{Ends, Outside, Refused, Serving}
+use Rattle.esb_top.specs.Session.{IsSession, IsCutAt, is_whole, status_by, status_if, status_of}
+use Rattle.esb_top.specs.Words.{greeting}
+use Rattle.esb_top.specs.Work.{Goes}
+use Rattle.esb_top.proofs.Histories.{list_end, each-push, all-push, arrivals-push, sent-push, faults-push}
+use Rattle.esb_top.proofs.Outputs.{wrote-part}
+
+-- ---- the end of the input
+
+sent-end : (es fs : List Event) → fs ≡ es ++ events.EndOfInput ∷ [] → sent fs ≡ sent es
+sent-end es fs is = ap sent is ∙ ap (λ (ps : List Packet). flat_map written_frame ps) (sent-push es events.EndOfInput ∙ list_end (sent_packets es))
+
+arrivals-end : (es fs : List Event) → fs ≡ es ++ events.EndOfInput ∷ [] → arrivals fs ≡ arrivals es
+arrivals-end es fs is = ap arrivals is ∙ arrivals-push es events.EndOfInput ∙ list_end (arrivals es)
+
+-- nothing was written so far
+pub wrote-nothing : (before : List ℕ) → IsWritten before before [] true
+wrote-nothing before = record { written = []; left = []; parts = refl; holds = sym (list_end before); all = λ e. refl }
+
+-- a session says nothing of whether a sink is whole
+any-whole : (ht kt st : Type 0) (was now : Outside) (status : ℕ) (journal : List Event) → IsSession ht kt st was now status journal → IsSession ht kt st was (record now { whole = true }) status journal
+any-whole ht kt st was now status journal s = record {
+  legal = s.legal;
+  sound = s.sound;
+  from_host = s.from_host;
+  counted = s.counted;
+  sends = s.sends;
+  write_fault = s.write_fault;
+  read_fault = s.read_fault;
+  malformed = s.malformed;
+  whole_input = s.whole_input;
+}
+
+module _ (ht kt st : Type 0) (was mid : Outside) (old : Entries) (fresh : old.events ≡ []) (same_world : mid.world ≡ was.world) (same_faults : mid.host_faults ≡ was.host_faults) (same_unread : mid.unread ≡ was.unread)
+    (same_source : mid.source_faults ≡ was.source_faults) (greeted : Wrote kt was.holds mid.holds greeting mid.whole) (failed : FailedSince was.sink_faults mid.sink_faults mid.whole) (falls : was.sink_faults ≤ mid.sink_faults) where
+  start_sound : Sound old.events
+  start_sound = subst (λ (es : List Event). Sound es) (sym fresh) tt
+
+  start_told : ht → AreTold mid.world old.events
+  start_told t = subst (λ (es : List Event). AreTold mid.world es) (sym fresh) tt
+
+  start_counted : RoseBy (faults old.events) was.host_faults mid.host_faults
+  start_counted = subst (λ (es : List Event). RoseBy (faults es) was.host_faults mid.host_faults) (sym fresh) (inl (omega (arith, same_faults)))
+
+  start_wrote : Wrote kt was.holds mid.holds (greeting ++ sent old.events) mid.whole
+  start_wrote t = subst (λ (es : List Event). IsWritten was.holds mid.holds (greeting ++ sent es) mid.whole) (sym fresh) (subst (λ (bs : List ℕ). IsWritten was.holds mid.holds bs mid.whole) (sym (list_end greeting)) (greeted t))
+
+  -- what the journal has once the input ended
+  module _ (new : Entries) (final : List Event) (now : Outside) (is : final ≡ new.events ++ events.EndOfInput ∷ []) (goes : Goes ht mid.world mid.host_faults now.host_faults old.events new.events) where
+    final_sound : Sound final
+    final_sound = subst (λ (es : List Event). Sound es) (sym is) (each-push IsSound new.events events.EndOfInput (goes.sound start_sound) tt)
+
+    final_told : ht → AreTold was.world final
+    final_told t =
+        subst (λ (es : List Event). AreTold was.world es) (sym is)
+        (all-push (IsTold was.world) new.events events.EndOfInput (subst (λ w. AreTold w new.events) same_world (goes.from_host t (start_told t))) tt)
+
+    final_counted : RoseBy (faults final) was.host_faults now.host_faults
+    final_counted =
+        subst (λ (k : ℕ). RoseBy k was.host_faults now.host_faults) (sym (ap faults is ∙ faults-push new.events events.EndOfInput ∙ omega arith)) (goes.counted was.host_faults start_counted)
+
+    final_sent : (whole : Bool) → IsWritten was.holds now.holds (greeting ++ sent new.events) whole → IsWritten was.holds now.holds (greeting ++ sent final) whole
+    final_sent whole w = subst (λ (bs : List ℕ). IsWritten was.holds now.holds (greeting ++ bs) whole) (sym (sent-end new.events final is)) w
+
+    pub session-refused : is_legal final ≡ true → Refused ht kt mid now old new → IsSession ht kt st was now 5 final
+    session-refused legal r = record {
+      legal = legal;
+      sound = final_sound;
+      from_host = final_told;
+      counted = final_counted;
+      sends = λ t. final_sent false (r.wrote was.holds greeting start_wrote t);
+      write_fault = λ e. absurd cc;
+      read_fault = λ e. absurd cc;
+      malformed = λ e. absurd cc;
+      whole_input = λ e. absurd cc;
+    }
+
+    -- the end of an input that was not malformed, and its bytes
+    final_read : (unread : List ℕ) → (st → was.unread ≡ flat_map frame (arrivals new.events) ++ unread) → st → was.unread ≡ flat_map frame (arrivals final) ++ unread
+    final_read unread read t = subst (λ (ps : List Packet). was.unread ≡ flat_map frame ps ++ unread) (sym (arrivals-end new.events final is)) (read t)
+
+    start_read : st → was.unread ≡ flat_map frame (arrivals old.events) ++ mid.unread
+    start_read t = subst (λ (es : List Event). was.unread ≡ flat_map frame (arrivals es) ++ mid.unread) (sym fresh) (sym same_unread)
+
+    cut : (unread : List ℕ) → (st → was.unread ≡ flat_map frame (arrivals new.events) ++ unread) → (st → BeginsWithNone unread × (unread ≡ [] → ⊥)) → st → IsCutAt was.unread final
+    cut unread read none t = record { rest = unread; parts = final_read unread read t; none = (none t).0; some = (none t).1 }
+
+    all_read : (unread : List ℕ) → (st → was.unread ≡ flat_map frame (arrivals new.events) ++ unread) → (st → unread ≡ []) → st → was.unread ≡ flat_map frame (arrivals final)
+    all_read unread read none t = final_read unread read t ∙ ap (λ (bs : List ℕ). flat_map frame (arrivals final) ++ bs) (none t) ∙ list_end (flat_map frame (arrivals final))
+
+    rose_source : Rose mid.source_faults now.source_faults → Rose was.source_faults now.source_faults
+    rose_source r = subst (λ (n : ℕ). Rose n now.source_faults) same_source r
+
+    -- a session in which a write failed
+    unwhole : is_legal final ≡ true → Rose was.sink_faults now.sink_faults → (kt → IsWritten was.holds now.holds (greeting ++ sent new.events) false) → IsSession ht kt st was now 4 final
+    unwhole legal rose w = record {
+      legal = legal;
+      sound = final_sound;
+      from_host = final_told;
+      counted = final_counted;
+      sends = λ t. final_sent false (w t);
+      write_fault = λ e. rose;
+      read_fault = λ e. absurd cc;
+      malformed = λ e. absurd cc;
+      whole_input = λ e. absurd cc;
+    }
+
+    by_ending : (ending : Ending) (refused : Bool) (unread : List ℕ) (reads : ℕ) → is_legal final ≡ true → (kt → IsWritten was.holds now.holds (greeting ++ sent new.events) true)
+        → (st → was.unread ≡ flat_map frame (arrivals new.events) ++ unread) → EndsBy st (Rose mid.source_faults now.source_faults) unread reads ending → IsSession ht kt st was now (status_by ending refused) final
+    by_ending endings.ReadFault refused unread reads legal w read e = record {
+      legal = legal;
+      sound = final_sound;
+      from_host = final_told;
+      counted = final_counted;
+      sends = λ t. final_sent true (w t);
+      write_fault = λ x. absurd cc;
+      read_fault = λ x. rose_source e;
+      malformed = λ x. absurd cc;
+      whole_input = λ x. absurd cc;
+    }
+    by_ending endings.Malformed refused unread reads legal w read e = record {
+      legal = legal;
+      sound = final_sound;
+      from_host = final_told;
+      counted = final_counted;
+      sends = λ t. final_sent true (w t);
+      write_fault = λ x. absurd cc;
+      read_fault = λ x. absurd cc;
+      malformed = λ x. cut unread read e;
+      whole_input = λ x. absurd cc;
+    }
+    by_ending endings.Budget refused unread reads legal w read e = record {
+      legal = legal;
+      sound = final_sound;
+      from_host = final_told;
+      counted = final_counted;
+      sends = λ t. final_sent true (w t);
+      write_fault = λ x. absurd cc;
+      read_fault = λ x. absurd cc;
+      malformed = λ x. absurd cc;
+      whole_input = λ x. absurd cc;
+    }
+    by_ending endings.Done true unread reads legal w read e = record {
+      legal = legal;
+      sound = final_sound;
+      from_host = final_told;
+      counted = final_counted;
+      sends = λ t. wrote-part was.holds now.holds (greeting ++ sent final) true (final_sent true (w t));
+      write_fault = λ x. absurd cc;
+      read_fault = λ x. absurd cc;
+      malformed = λ x. absurd cc;
+      whole_input = λ x. absurd cc;
+    }
+    by_ending endings.Done false unread reads legal w read e = record {
+      legal = legal;
+      sound = final_sound;
+      from_host = final_told;
+      counted = final_counted;
+      sends = λ t. final_sent true (w t);
+      write_fault = λ x. absurd cc;
+      read_fault = λ x. absurd cc;
+      malformed = λ x. absurd cc;
+      whole_input = λ x. all_read unread read e;
+    }
+
+    if_whole : (whole : Bool) (ending : Ending) (refused : Bool) (unread : List ℕ) (reads : ℕ) → is_legal final ≡ true → FailedSince was.sink_faults now.sink_faults whole
+        → (kt → IsWritten was.holds now.holds (greeting ++ sent new.events) whole) → (st → was.unread ≡ flat_map frame (arrivals new.events) ++ unread)
+        → EndsBy st (Rose mid.source_faults now.source_faults) unread reads ending → IsSession ht kt st was now (status_if whole ending refused) final
+    if_whole false ending refused unread reads legal fell w read e = unwhole legal (fell refl) w
+    if_whole true ending refused unread reads legal fell w read e = by_ending ending refused unread reads legal w read e
+
+    pub session-ok : (ending : Ending) (refused : Bool) → is_legal final ≡ true → Ends ht kt st mid now old new ending → IsSession ht kt st was now (status_if now.whole ending refused) final
+    session-ok ending refused legal e =
+        if_whole now.whole ending refused e.unread e.reads legal (e.serving.failed was.sink_faults falls failed) (e.serving.wrote was.holds greeting start_wrote)
+        (e.serving.stream was.unread start_read) e.ends
+
+  pub session-any : (new : Entries) (final : List Event) (now : Outside) (result : Result Ending Memory) (refused : Bool) → final ≡ new.events ++ events.EndOfInput ∷ [] → is_legal final ≡ true
+      → IfOk result (λ ending. Ends ht kt st mid now old new ending) → OnErr result (Refused ht kt mid now old new) → IsSession ht kt st was (record now { whole = true }) (status_of result now.whole refused) final
+  session-any new final now (Ok ending) refused is legal ok err = any-whole ht kt st was now _ final (session-ok new final now is ok.serving.goes ending refused legal ok)
+  session-any new final now (Err refusal) refused is legal ok err = any-whole ht kt st was now _ final (session-refused new final now is err.goes legal err)
+
+-- a session that never began, for want of memory
+pub session-none : (ht kt st : Type 0) (was : Outside) (journal : List Event) → journal ≡ [] → IsSession ht kt st was was 5 journal
+session-none ht kt st was journal none = subst (λ (es : List Event). IsSession ht kt st was was 5 es) (sym none) (record {
+  legal = refl;
+  sound = tt;
+  from_host = λ t. tt;
+  counted = inl (omega arith);
+  sends = λ t. record { written = []; left = greeting ++ sent []; parts = refl; holds = sym (list_end was.holds); all = λ e. absurd (false≢true e) };
+  write_fault = λ e. absurd cc;
+  read_fault = λ e. absurd cc;
+  malformed = λ e. absurd cc;
+  whole_input = λ e. absurd cc;
+})

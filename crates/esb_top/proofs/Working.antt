@@ -1,0 +1,249 @@
+-- What each event of the work leaves.
+use Rattle.std.proofs.Common.{map, zero, suc, ◌≡◌, ◌⊎◌, ℕ, ◌+◌, ◌<◌, ◌≤◌, Bool, true, false, cond, not, ◌&&◌, List, [], ◌∷◌, ◌++◌, length, Option, None, Some, inl, inr, refl, sym, ap, subst, ◌∙◌, arith, nat_eq, nat_lt, ◌||◌, slice_set, length-set, slice_index_or}
+use Rattle.std.specs.List.{list_any}
+use Rattle.std.proofs.lemmas.List.{get_or-set_same}
+use Rattle.std.proofs.lemmas.Bool.{false≢true, eqb-true, ltb-true, lt-ltb, eq-eqb}
+use Rattle.esb_base.specs.World.{Folder}
+use Rattle.esb_base.specs.Faults.{Rose}
+use Rattle.esb_flags.specs.declared.options.Options.{Options}
+use Rattle.esb_ask.specs.declared.question.Question.{Question}
+use Rattle.esb_ask.specs.declared.answer.Answer.{Answer}
+use Rattle.esb_ask.specs.declared.answer.Answer.TheVariants as answers
+use Rattle.esb_ask.specs.declared.task.Task.{Task}
+use Rattle.esb_ask.specs.declared.outcome.Outcome.{Outcome}
+use Rattle.esb_ask.specs.declared.product.Product.{Product}
+use Rattle.esb_ask.specs.declared.outcome.Outcome.TheVariants as outcomes
+use Rattle.esb_ask.specs.Tasks.{same_task, product_fits}
+use Rattle.esb_ask.proofs.SameTask.{same_task-refl}
+use Rattle.esb_ask.specs.Table.{kept, same_question}
+use Rattle.esb_core.specs.declared.event.Job.{Job}
+use Rattle.esb_core.specs.declared.event.Job.TheVariants as job
+use Rattle.esb_core.specs.declared.event.Role.TheVariants as role
+use Rattle.esb_core.proofs.Claims.{first-is, job-fits, scan-is, link-is}
+use Rattle.esb_ask.proofs.Tables.{same-refl}
+use Rattle.esb_core.specs.declared.event.Event.{Event}
+use Rattle.esb_core.specs.declared.event.Event.TheVariants as event
+use Rattle.esb_core.specs.State.{Building, State, build_at, no_build}
+use Rattle.esb_core.specs.Steps
+use Rattle.esb_core.specs.Steps.{after, recorded, is_claim, task_claimed, link_claimed}
+use Rattle.esb_core.specs.Allowed.{allowed, has_task, has_begun, has_claim, is_linker, first_job, first_from, job_of, names_job, same_job}
+use Rattle.esb_core.specs.History.{Begun, build, builds, no_begun, table, is_legal, replay}
+use Rattle.esb_core.proofs.Readings.{Reads, begun_of}
+use Rattle.esb_core.proofs.Laws.{reads-legal}
+use Rattle.esb_scan.specs.declared.run.Run.TheVariants as runs
+use Rattle.esb_scan.specs.Run.{run, trail}
+use Rattle.esb_scan.proofs.Runs.{asks_new, run_fits}
+use Rattle.esb_sound.specs.Sound.{Sound, IsSound, IsAsked, IsLinked}
+use Rattle.esb_sound.specs.Told.{IsTold, is_fault, is_fault_record, told}
+use Rattle.esb_top.specs.Entries.{Entries, Added, AddedWithin, Kept}
+use Rattle.esb_top.specs.Work.{Worked, AtWork, AtLink, Answered, Linked}
+use Rattle.esb_scan.specs.Complete.{IsComplete}
+use Rattle.esb_top.proofs.Histories.{IsOfWork, replay-push, worked-push, worked-refl, worked-trans}
+
+-- ---- the direct answers about a legal list
+
+at_map : (bs : List Building) (k : ℕ) → slice_index_or (map begun_of bs) k no_begun ≡ begun_of (build_at bs k)
+at_map [] k = refl
+at_map (c ∷ bs) zero = refl
+at_map (c ∷ bs) (suc k) = at_map bs k
+
+pub build-is : (es : List Event) (n : ℕ) → is_legal es ≡ true → build es n ≡ begun_of (build_at (replay es).builds n)
+build-is es n legal = ap (λ (bs : List Begun). slice_index_or bs n no_begun) (sym (reads-legal es legal).begun) ∙ at_map (replay es).builds n
+
+pub options-are : (es : List Event) (n : ℕ) → is_legal es ≡ true → (build es n).options ≡ (build_at (replay es).builds n).options
+options-are es n legal = ap (λ (b : Begun). b.options) (build-is es n legal)
+
+pub table-is : (es : List Event) (n : ℕ) → is_legal es ≡ true → table es n ≡ (build_at (replay es).builds n).table
+table-is es n legal = sym ((reads-legal es legal).tables n)
+
+-- ---- an answer
+
+recorded-open : (b : Building) (q : Question) (a : Answer) (o : Option Outcome) → o ≡ None → recorded b q a o ≡ record b { table = kept b.table q a }
+recorded-open b q a o e = ap (λ p. recorded b q a p) e
+
+pub record-leaves : (s : State) (n : ℕ) (q : Question) (a : Answer) → n < length s.builds → (build_at s.builds n).outcome ≡ None
+    → build_at (after s (event.Record 0 n q a)).builds n ≡ record (build_at s.builds n) { table = kept (build_at s.builds n).table q a }
+record-leaves s n q a lt none = get_or-set_same s.builds n (recorded (build_at s.builds n) q a (build_at s.builds n).outcome) no_build lt ∙ recorded-open (build_at s.builds n) q a (build_at s.builds n).outcome none
+
+pub at-record : (s : State) (n : ℕ) (t : Task) (q : Question) (a : Answer) → AtWork s n t → AtWork (after s (event.Record 0 n q a)) n t
+at-record s n t q a at =
+    let same = record-leaves s n q a at.begun at.unsettled in
+    record {
+      begun = omega (arith, at.begun, length-set s.builds n (recorded (build_at s.builds n) q a (build_at s.builds n).outcome));
+      unsettled = ap (λ (b : Building). b.outcome) same ∙ at.unsettled;
+      claimed = ap (λ (b : Building). has_task b 0 t) same ∙ at.claimed;
+    }
+
+record-work : (n : ℕ) (q : Question) (a : Answer) → IsOfWork (event.Record 0 n q a)
+record-work n q a = record { none_arrived = refl; none_sent = λ g. refl; goes_on = λ s. refl }
+
+fault-is : (a : Answer) → is_fault a ≡ true → a ≡ answers.Fault
+fault-is answers.File e = absurd (false≢true e)
+fault-is answers.Folder e = absurd (false≢true e)
+fault-is answers.Missing e = absurd (false≢true e)
+fault-is answers.TooBig e = absurd (false≢true e)
+fault-is answers.Fault e = refl
+fault-is (answers.Bytes contents) e = absurd (false≢true e)
+
+-- what an answer to an asked question leaves
+pub record Asks (tells : Type 0) (world : List Folder) (fo fn : ℕ) (old new : Entries) (n : ℕ) (t : Task) (options : Options) : Type 0 where
+  pub at : AtWork (replay new.events) n t
+  pub same_options : (build_at (replay new.events).builds n).options ≡ options
+  pub worked : Worked tells world fo fn old.events new.events
+  pub room : old.promised ≤ new.promised
+
+pub asked-step : (tells : Type 0) (world : List Folder) (fo fn : ℕ) (old new : Entries) (n : ℕ) (q : Question) (t : Task) (options : Options) → is_legal old.events ≡ true → AtWork (replay old.events) n t
+    → options ≡ (build_at (replay old.events).builds n).options → run options (build_at (replay old.events).builds n).table t ≡ runs.Asks q → Answered tells world fo fn old new n q → fo ≤ fn
+    → Asks tells world fo fn old new n t options
+asked-step tells world fo fn old new n q t options legal at same asks got le =
+    let s = replay old.events in
+    let pushed : replay new.events ≡ after s (event.Record 0 n q got.answer) = ap replay got.added.events ∙ replay-push old.events (event.Record 0 n q got.answer) in
+    let leaves = record-leaves s n q got.answer at.begun at.unsettled in
+    let trail_is : trail (build old.events n).options (table old.events n) t ≡ q ∷ [] =
+    ap (λ (o : Options). trail o (table old.events n) t) (options-are old.events n legal ∙ sym same) ∙ ap (λ (tb : List (Question × Answer)). trail options tb t) (table-is old.events n legal)
+    ∙ (asks_new options (build_at s.builds n).table t q asks).is_trail in
+    record {
+      at = subst (λ (u : State). AtWork u n t) (sym pushed) (at-record s n t q got.answer at);
+      same_options = ap (λ (u : State). (build_at u.builds n).options) pushed ∙ ap (λ (b : Building). b.options) leaves ∙ sym same;
+      worked = worked-push tells world fo fn old.events new.events (event.Record 0 n q got.answer) got.added.events (record-work n q got.answer)
+          (λ h. record {
+            task = t;
+            claimed = at.claimed;
+            on_trail = ap (λ (qs : List Question). list_any (same_question q) qs) trail_is ∙ ap (λ b. b || false) (same-refl q);
+          })
+          got.from_host (λ e. got.fault (fault-is got.answer e)) le;
+      room = got.added.room;
+    }
+
+-- ---- the end of a claim
+
+pub delivered-step : (tells : Type 0) (world : List Folder) (f : ℕ) (old : Entries) (new : List Event) (n : ℕ) (t : Task) (p : Product) (options : Options) → is_legal old.events ≡ true
+    → (build_at (replay old.events).builds n).options ≡ options → run options (build_at (replay old.events).builds n).table t ≡ runs.Done p → new ≡ old.events ++ event.Deliver 0 n t p ∷ []
+    → Worked tells world f f old.events new
+delivered-step tells world f old new n t p options legal same given is =
+    worked-push tells world f f old.events new (event.Deliver 0 n t p) is (record { none_arrived = refl; none_sent = λ g. refl; goes_on = λ s. refl })
+    (λ h. ap (λ (o : Options). run o (table old.events n) t) (options-are old.events n legal ∙ same) ∙ ap (λ (tb : List (Question × Answer)). run options tb t) (table-is old.events n legal) ∙ given)
+    (λ t. tt) (λ e. absurd (false≢true e)) (omega arith)
+
+pub settled-step : (tells : Type 0) (world : List Folder) (f : ℕ) (old : Entries) (new : List Event) (n : ℕ) (o : Outcome) → is_legal old.events ≡ true
+    → IsLinked (build_at (replay old.events).builds n).options (build_at (replay old.events).builds n).table o → new ≡ old.events ++ event.Settle 0 n o ∷ []
+    → Worked tells world f f old.events new
+settled-step tells world f old new n o legal right is =
+    worked-push tells world f f old.events new (event.Settle 0 n o) is (record { none_arrived = refl; none_sent = λ g. refl; goes_on = λ s. refl })
+    (λ h. subst (λ (op : Options). IsLinked op (table old.events n) o) (sym (options-are old.events n legal)) (subst (λ (tb : List (Question × Answer)). IsLinked (build_at (replay old.events).builds n).options tb o) (sym (table-is old.events n legal)) right))
+    (λ t. tt) (λ e. absurd (false≢true e)) (omega arith)
+
+both : (a b : Bool) → a ≡ true → b ≡ true → (a && b) ≡ true
+both a b e f = rw (e, f) refl
+
+begun-is : (s : State) (n : ℕ) → n < length s.builds → has_begun s n ≡ true
+begun-is s n lt = lt-ltb n (length s.builds) lt
+
+pub may-deliver : (s : State) (n : ℕ) (t : Task) (p : Product) (options : Options) (answers : List (Question × Answer)) → AtWork s n t → run options answers t ≡ runs.Done p → allowed s (event.Deliver 0 n t p) ≡ true
+may-deliver s n t p options answers at given =
+    both (has_begun s n) (has_task (build_at s.builds n) 0 t && product_fits t p) (begun-is s n at.begun) (both (has_task (build_at s.builds n) 0 t) (product_fits t p) at.claimed (run_fits options answers t p given))
+
+any-weaker : (claims : List (ℕ × Task)) (t : Task) → list_any (is_claim 0 t) claims ≡ true → list_any (λ claim. nat_eq claim.0 0) claims ≡ true
+any-weaker [] t e = absurd (false≢true e)
+any-weaker (c ∷ cs) t e = by (nat_eq c.0 0) (same_task c.1 t) (any-weaker cs t) e
+  where
+    by : (a b : Bool) → (list_any (is_claim 0 t) cs ≡ true → list_any (λ claim. nat_eq claim.0 0) cs ≡ true) → ((a && b) || list_any (is_claim 0 t) cs) ≡ true → (a || list_any (λ claim. nat_eq claim.0 0) cs) ≡ true
+    by true b rec h = refl
+    by false b rec h = rec h
+
+or-left : (a b : Bool) → a ≡ true → (a || b) ≡ true
+or-left a b e = rw e refl
+
+pub may-give_up : (s : State) (n : ℕ) (t : Task) → AtWork s n t → allowed s (event.Settle 0 n outcomes.Memory) ≡ true
+may-give_up s n t at =
+    both (has_begun s n) (has_claim (build_at s.builds n) 0) (begun-is s n at.begun)
+    (or-left (list_any (λ claim. nat_eq claim.0 0) (build_at s.builds n).claims) (is_linker (build_at s.builds n).linker 0) (any-weaker (build_at s.builds n).claims t at.claimed))
+
+linker-is : (b : Building) → b.linker ≡ Some 0 → is_linker b.linker 0 ≡ true
+linker-is b e = ap (λ l. is_linker l 0) e
+
+or-right : (a b : Bool) → b ≡ true → (a || b) ≡ true
+or-right true b e = refl
+or-right false b e = e
+
+pub may-settle : (s : State) (n : ℕ) (o : Outcome) (options : Options) (answers : List (Question × Answer)) → AtLink s n → IsLinked options answers o → allowed s (event.Settle 0 n o) ≡ true
+may-settle s n (outcomes.Files files) options answers at right = both (has_begun s n) (is_linker (build_at s.builds n).linker 0) (begun-is s n at.begun) (linker-is (build_at s.builds n) at.claimed)
+may-settle s n (outcomes.Errors messages) options answers at right = both (has_begun s n) (is_linker (build_at s.builds n).linker 0) (begun-is s n at.begun) (linker-is (build_at s.builds n) at.claimed)
+may-settle s n outcomes.Canceled options answers at right = absurd right
+may-settle s n outcomes.Memory options answers at right =
+    both (has_begun s n) (has_claim (build_at s.builds n) 0) (begun-is s n at.begun)
+    (or-right (list_any (λ claim. nat_eq claim.0 0) (build_at s.builds n).claims) (is_linker (build_at s.builds n).linker 0) (linker-is (build_at s.builds n) at.claimed))
+
+-- ---- a claim
+
+pub claim-work : (j : Job) → IsOfWork (event.Claim (role.Worker 0) j)
+claim-work (job.Scan n t) = record { none_arrived = refl; none_sent = λ g. refl; goes_on = λ s. refl }
+claim-work (job.Link n) = record { none_arrived = refl; none_sent = λ g. refl; goes_on = λ s. refl }
+
+pub claimed-step : (tells : Type 0) (world : List Folder) (f : ℕ) (es new : List Event) (j : Job) → new ≡ es ++ event.Claim (role.Worker 0) j ∷ [] → Worked tells world f f es new
+claimed-step tells world f es new j is = worked-push tells world f f es new (event.Claim (role.Worker 0) j) is (claim-work j) (λ h. tt) (λ t. tt) (λ e. absurd (false≢true e)) (omega arith)
+
+same_job-refl : (j : Job) → same_job j j ≡ true
+same_job-refl (job.Scan n t) = both (nat_eq n n) (same_task t t) (eq-eqb n n refl) (same_task-refl t)
+same_job-refl (job.Link n) = eq-eqb n n refl
+
+pub may-claim : (s : State) (j : Job) → first_job s (role.Worker 0) ≡ Some j → allowed s (event.Claim (role.Worker 0) j) ≡ true
+may-claim s j e = ap (λ o. names_job o j) e ∙ same_job-refl j
+
+any-last : (claims : List (ℕ × Task)) (t : Task) → list_any (is_claim 0 t) (claims ++ (0, t) ∷ []) ≡ true
+any-last [] t = or-left (same_task t t) false (same_task-refl t)
+any-last (c ∷ cs) t = or-right (is_claim 0 t c) (list_any (is_claim 0 t) (cs ++ (0, t) ∷ [])) (any-last cs t)
+
+pub at-scan : (es new : List Event) (n : ℕ) (t : Task) → new ≡ es ++ event.Claim (role.Worker 0) (job.Scan n t) ∷ [] → first_job (replay es) (role.Worker 0) ≡ Some (job.Scan n t) → AtWork (replay new) n t
+at-scan es new n t is e =
+    let s = replay es in
+    let ready = scan-is s.builds n t (first-is 0 s.builds (job.Scan n t) e) in
+    let b = task_claimed (build_at s.builds n) 0 t in
+    let here : build_at (slice_set s.builds n b) n ≡ b = get_or-set_same s.builds n b no_build ready.begun in
+    subst (λ (u : State). AtWork u n t) (sym (ap replay is ∙ replay-push es (event.Claim (role.Worker 0) (job.Scan n t)))) record {
+      begun = omega (arith, ready.begun, length-set s.builds n b);
+      unsettled = ap (λ (c : Building). c.outcome) here ∙ ready.unsettled;
+      claimed = ap (λ (c : Building). has_task c 0 t) here ∙ any-last (build_at s.builds n).claims t;
+    }
+
+-- the worker has claimed the link, over the same answers
+pub record Links (s u : State) (n : ℕ) : Type 0 where
+  pub at : AtLink u n
+  pub same_options : (build_at u.builds n).options ≡ (build_at s.builds n).options
+  pub same_table : (build_at u.builds n).table ≡ (build_at s.builds n).table
+
+pub at-link : (es new : List Event) (n : ℕ) → new ≡ es ++ event.Claim (role.Worker 0) (job.Link n) ∷ [] → first_job (replay es) (role.Worker 0) ≡ Some (job.Link n) → Links (replay es) (replay new) n
+at-link es new n is e =
+    let s = replay es in
+    let ready = link-is s.builds n (first-is 0 s.builds (job.Link n) e) in
+    let b = link_claimed (build_at s.builds n) 0 in
+    let here : build_at (slice_set s.builds n b) n ≡ b = get_or-set_same s.builds n b no_build ready.begun in
+    subst (λ (u : State). Links s u n) (sym (ap replay is ∙ replay-push es (event.Claim (role.Worker 0) (job.Link n)))) record {
+      at = record {
+        begun = omega (arith, ready.begun, length-set s.builds n b);
+        unsettled = ap (λ (c : Building). c.outcome) here ∙ ready.unsettled;
+        claimed = ap (λ (c : Building). c.linker) here;
+      };
+      same_options = ap (λ (c : Building). c.options) here;
+      same_table = ap (λ (c : Building). c.table) here;
+    }
+
+pub link-job : (bs : List Building) (n : ℕ) → first_from 0 bs ≡ Some (job.Link n) → job_of n (build_at bs n) ≡ Some (job.Link n)
+link-job bs n e =
+    let h = first-is 0 bs (job.Link n) e in
+    let f = job-fits (0 + h.number) (build_at bs h.number) (job.Link n) h.its in
+    let same : h.number ≡ n = omega (arith, f.0) in
+    subst (λ (m : ℕ). job_of m (build_at bs m) ≡ Some (job.Link n)) same (ap (λ (m : ℕ). job_of m (build_at bs h.number)) (omega arith) ∙ h.its)
+
+pub complete-after : (s u : State) (n : ℕ) → Links s u n → IsComplete (build_at s.builds n).options (build_at s.builds n).table → IsComplete (build_at u.builds n).options (build_at u.builds n).table
+complete-after s u n h complete =
+    subst (λ (o : Options). IsComplete o (build_at u.builds n).table) (sym h.same_options) (subst (λ (tb : List (Question × Answer)). IsComplete (build_at s.builds n).options tb) (sym h.same_table) complete)
+
+pub linked-step : (tells : Type 0) (world : List Folder) (f : ℕ) (es : List Event) (mid new : Entries) (n : ℕ) → mid.events ≡ es ++ event.Claim (role.Worker 0) (job.Link n) ∷ [] → Linked mid new n → Worked tells world f f es new.events
+linked-step tells world f es mid new n is l =
+    worked-trans tells world f f f es mid.events new.events (claimed-step tells world f es mid.events (job.Link n) is) (settled-step tells world f mid new.events n l.outcome l.legal l.right l.added)
+
+pub linked-by : (old new : Entries) (n : ℕ) (o : Outcome) → is_legal old.events ≡ true → IsLinked (build_at (replay old.events).builds n).options (build_at (replay old.events).builds n).table o
+    → AddedWithin old new (event.Settle 0 n o) ⊎ AddedWithin old new (event.Settle 0 n outcomes.Memory) → Linked old new n
+linked-by old new n o legal right (inl added) = let room = added.room in record { outcome = o; right = right; added = added.events; room = omega arith; legal = legal }
+linked-by old new n o legal right (inr added) = let room = added.room in record { outcome = outcomes.Memory; right = tt; added = added.events; room = omega arith; legal = legal }

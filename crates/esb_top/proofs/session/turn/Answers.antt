@@ -1,0 +1,47 @@
+use Rattle.std.proofs.Common.{◌≡◌, ◌++◌, ℕ, List, Result, Ok, Err, sym, ap, subst, ◌∙◌}
+use Rattle.std.specs.Prelude.{IfOk}
+use Rattle.std.specs.List.{flat_map}
+use Rattle.esb_wire.specs.Spelling.{frame}
+use Rattle.esb_sound.specs.Sent.{arrivals, sent}
+use Rattle.esb_top.specs.Output.{Wrote, IsWritten}
+use Rattle.esb_top.proofs.Turns.{arrivals-pops, goes-arrives, goes-pops, goes-trans, goes-worked, if_ok, if_ok-map, sent-arrives, sent-worked}
+use Rattle.esb_top.proofs.session.turn.Goals as goal
+
+pub returns-in_err-send_first-clause-goes : goal.returns-in_err-send_first-clause-goes
+returns-in_err-send_first-clause-goes g c = goes-pops g.H.Host.tells (g.H.Host.world c.args.host.now) (g.H.Host.faults c.args.host.now) c.args.history.now.events c.send_first.new.history.events c.send_first.ensures.pops
+
+pub returns-then-branch-clause-goes : goal.returns-then-branch-clause-goes
+returns-then-branch-clause-goes g c = goes-pops g.H.Host.tells (g.H.Host.world c.args.host.now) (g.H.Host.faults c.args.host.now) c.args.history.now.events c.send_first.new.history.events c.send_first.ensures.pops
+
+pub work_first-requires : goal.work_first-requires
+work_first-requires g c = record { sound = (goes-pops g.H.Host.tells (g.H.Host.world c.args.host.now) (g.H.Host.faults c.args.host.now) c.args.history.now.events c.send_first.new.history.events c.send_first.ensures.pops).sound c.requires.sound }
+
+pub returns-in_err-work_first-clause-goes : goal.returns-in_err-work_first-clause-goes
+returns-in_err-work_first-clause-goes g c = goes-trans g.H.Host.tells (g.H.Host.world c.args.host.now) (g.H.Host.faults c.args.host.now) (g.H.Host.faults c.args.host.now) (g.H.Host.faults c.work_first.new.host) c.args.history.now.events c.send_first.new.history.events c.work_first.new.history.events (goes-pops g.H.Host.tells (g.H.Host.world c.args.host.now) (g.H.Host.faults c.args.host.now) c.args.history.now.events c.send_first.new.history.events c.send_first.ensures.pops) (goes-worked g.H.Host.tells (g.H.Host.world c.args.host.now) (g.H.Host.faults c.args.host.now) (g.H.Host.faults c.work_first.new.host) c.send_first.new.history.events c.work_first.new.history.events c.work_first.ensures.worked)
+
+pub returns-then-branch-2-clause-goes : goal.returns-then-branch-2-clause-goes
+returns-then-branch-2-clause-goes g c = goes-trans g.H.Host.tells (g.H.Host.world c.args.host.now) (g.H.Host.faults c.args.host.now) (g.H.Host.faults c.args.host.now) (g.H.Host.faults c.work_first.new.host) c.args.history.now.events c.send_first.new.history.events c.work_first.new.history.events (goes-pops g.H.Host.tells (g.H.Host.world c.args.host.now) (g.H.Host.faults c.args.host.now) c.args.history.now.events c.send_first.new.history.events c.send_first.ensures.pops) (goes-worked g.H.Host.tells (g.H.Host.world c.args.host.now) (g.H.Host.faults c.args.host.now) (g.H.Host.faults c.work_first.new.host) c.send_first.new.history.events c.work_first.new.history.events c.work_first.ensures.worked)
+
+pub read_next-requires-clause-open : goal.read_next-requires-clause-open
+read_next-requires-clause-open g c = (goes-trans g.H.Host.tells (g.H.Host.world c.args.host.now) (g.H.Host.faults c.args.host.now) (g.H.Host.faults c.args.host.now) (g.H.Host.faults c.work_first.new.host) c.args.history.now.events c.send_first.new.history.events c.work_first.new.history.events (goes-pops g.H.Host.tells (g.H.Host.world c.args.host.now) (g.H.Host.faults c.args.host.now) c.args.history.now.events c.send_first.new.history.events c.send_first.ensures.pops) (goes-worked g.H.Host.tells (g.H.Host.world c.args.host.now) (g.H.Host.faults c.args.host.now) (g.H.Host.faults c.work_first.new.host) c.send_first.new.history.events c.work_first.new.history.events c.work_first.ensures.worked)).ended ∙ c.requires.unended
+
+pub returns-clause-goes : goal.returns-clause-goes
+returns-clause-goes g c = goes-trans g.H.Host.tells (g.H.Host.world c.args.host.now) (g.H.Host.faults c.args.host.now) (g.H.Host.faults c.work_first.new.host) (g.H.Host.faults c.work_first.new.host) c.args.history.now.events c.work_first.new.history.events c.read_next.new.history.events (goes-trans g.H.Host.tells (g.H.Host.world c.args.host.now) (g.H.Host.faults c.args.host.now) (g.H.Host.faults c.args.host.now) (g.H.Host.faults c.work_first.new.host) c.args.history.now.events c.send_first.new.history.events c.work_first.new.history.events (goes-pops g.H.Host.tells (g.H.Host.world c.args.host.now) (g.H.Host.faults c.args.host.now) c.args.history.now.events c.send_first.new.history.events c.send_first.ensures.pops) (goes-worked g.H.Host.tells (g.H.Host.world c.args.host.now) (g.H.Host.faults c.args.host.now) (g.H.Host.faults c.work_first.new.host) c.send_first.new.history.events c.work_first.new.history.events c.work_first.ensures.worked)) (goes-arrives g.H.Host.tells (g.H.Host.world c.args.host.now) (g.H.Host.faults c.work_first.new.host) c.work_first.new.history.events c.read_next.new.history.events c.read_next.ensures.arrives)
+
+pub returns-clause-wrote : goal.returns-clause-wrote
+returns-clause-wrote g c =
+    if_ok c.read_next.result _
+    (λ ending before front w t.
+    subst (λ (bytes : List ℕ). IsWritten before (g.K.Sink.holds c.send_first.new.sink) (front ++ bytes) c.send_first.new.whole) (sym (sent-arrives c.work_first.new.history.events c.read_next.new.history.events c.read_next.ensures.arrives ∙ sent-worked c.send_first.new.history.events c.work_first.new.history.events c.work_first.ensures.worked.sends))
+    (c.in_ok-send_first.ensures.wrote before front w t))
+
+pub returns-clause-stream : goal.returns-clause-stream
+returns-clause-stream g c =
+    if_ok-map c.read_next.result _ _
+    (λ ending h all before t.
+    h all
+    (λ u.
+    before u
+    ∙ ap (λ (ps : List _). flat_map frame ps ++ (c.args.reader.now.held ++ g.S.Source.left c.args.source.now)) (sym (c.work_first.ensures.worked.arrived ∙ arrivals-pops c.args.history.now.events c.send_first.new.history.events c.send_first.ensures.pops)))
+    t)
+    c.read_next.ensures.stream

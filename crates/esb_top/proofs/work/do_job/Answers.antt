@@ -1,0 +1,32 @@
+use Rattle.esb_core.specs.History.{replay}
+use Rattle.esb_core.specs.declared.event.Job.TheVariants as job
+use Rattle.esb_top.proofs.Histories.{worked-trans}
+use Rattle.esb_top.proofs.Working.{at-link, at-scan, claimed-step, complete-after, link-job, linked-step, may-claim}
+use Rattle.esb_top.proofs.work.do_job.Goals as goal
+
+pub claim-requires : goal.claim-requires
+claim-requires g c = may-claim (replay c.args.history.now.events) c.args.job.now c.requires.first
+
+pub scan-requires-clause-at : goal.scan-requires-clause-at
+scan-requires-clause-at g c =
+    at-scan c.args.history.now.events c.claim.new.self.events c.in-Scan.build c.in-Scan.task (rw c.in-Scan.is at c.in_ok-claim.ensures.ok.events) (rw c.in-Scan.is at c.requires.first)
+
+pub link_build-requires-clause-at : goal.link_build-requires-clause-at
+link_build-requires-clause-at g c =
+    (at-link c.args.history.now.events c.claim.new.self.events c.in-Link.build (rw c.in-Link.is at c.in_ok-claim.ensures.ok.events) (rw c.in-Link.is at c.requires.first)).at
+
+pub link_build-requires-clause-complete : goal.link_build-requires-clause-complete
+link_build-requires-clause-complete g c =
+    let first = rw c.in-Link.is at c.requires.first in
+    complete-after (replay c.args.history.now.events) (replay c.claim.new.self.events) c.in-Link.build
+    (at-link c.args.history.now.events c.claim.new.self.events c.in-Link.build (rw c.in-Link.is at c.in_ok-claim.ensures.ok.events) first)
+    (c.links_are_ready.ensures c.args.history.now.events c.in-Link.build c.is_legal.ensures c.requires.sound (link-job (replay c.args.history.now.events).builds c.in-Link.build first))
+
+pub returns-in-Scan-clause-worked : goal.returns-in-Scan-clause-worked
+returns-in-Scan-clause-worked g c =
+    worked-trans g.H.Host.tells (g.H.Host.world c.args.host.now) (g.H.Host.faults c.args.host.now) (g.H.Host.faults c.args.host.now) (g.H.Host.faults c.scan.new.host) c.args.history.now.events c.claim.new.self.events c.scan.new.history.events
+    (claimed-step g.H.Host.tells (g.H.Host.world c.args.host.now) (g.H.Host.faults c.args.host.now) c.args.history.now.events c.claim.new.self.events c.args.job.now c.in_ok-claim.ensures.ok.events) c.scan.ensures.worked
+
+pub returns-in-Link-clause-worked : goal.returns-in-Link-clause-worked
+returns-in-Link-clause-worked g c =
+    linked-step g.H.Host.tells (g.H.Host.world c.args.host.now) (g.H.Host.faults c.args.host.now) c.args.history.now.events c.claim.new.self c.link_build.new.history c.in-Link.build (rw c.in-Link.is at c.in_ok-claim.ensures.ok.events) c.link_build.ensures

@@ -1,0 +1,7 @@
+pub mod Words
+pub mod Entries
+pub mod Work
+pub mod Output
+pub mod Input
+pub mod Serving
+pub mod Session

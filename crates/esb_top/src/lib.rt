@@ -1,0 +1,12 @@
+//! A session from the words of the command line to its end.
+#![tactic(auto)]
+
+mod history;
+mod output;
+mod run;
+mod session;
+mod words;
+mod work;
+
+pub use run::{Session, run_serial};
+pub use words::{BadWord, Words, read_words};

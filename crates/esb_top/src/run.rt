@@ -1,0 +1,141 @@
+//! The top call of a session on one thread.
+ghost use Rattle.std.specs.Prelude.{◌≡◌, ℕ, ◌<◌, ◌++◌, List as Listed, [], None, Some, true, false, is_ok};
+ghost use Rattle.esb_top.specs.Words.{bad_place, bad_word_line};
+ghost use Rattle.esb_top.specs.Output.{Wrote};
+ghost use Rattle.esb_top.specs.Session.{IsSession, status_of};
+
+use crate::history::History;
+use crate::output::put;
+use crate::session::{Ending, serve};
+use crate::words::{BadWord, read_words};
+use esb_base::{Host, List, Memory, Sink, Source, Text};
+use esb_core::Journal;
+use std::alloc::Global;
+
+/// What the service sends first: a length, and the text of its version.
+const GREETING: [u8; 17] = *b"\x0d\0\0\0esb-profile-1";
+
+/// How a session went.
+#[derive(Drop)]
+pub struct Session {
+    /// 0 where the input ended behind a packet and all that was owed was written; 1 for a bad word, 2 for malformed input, 3 for
+    /// a failed read, 4 for a failed write, 5 for want of memory, 6 where too many reads were made.
+    pub status: u8,
+    /// Where the input is malformed. It is 0 so far.
+    pub place: u64,
+    /// The events of the session, in order.
+    pub journal: Journal,
+    /// How many files each worker has parsed. No file is parsed so far.
+    pub parses: List<u64>,
+}
+
+fn end_with(alloc: Global, status: u8, journal: Journal) -> Session
+    ensures status { result.status ≡ status }
+    ensures journal { result.journal ≡ journal }
+{
+    Session {
+        status,
+        place: 0,
+        journal,
+        parses: List::new(alloc),
+    }
+}
+
+fn no_events(alloc: Global) -> Journal
+    ensures { result.events ≡ [] }
+{
+    Journal {
+        events: List::new(alloc),
+    }
+}
+
+fn status_of(ending: Result<Ending, Memory>, whole: bool, refused: bool) -> u8
+    ensures { result ≡ status_of ending whole refused }
+{
+    match ending {
+        Err(Memory) => 5,
+        Ok(ending) => {
+            if !whole {
+                return 4;
+            }
+            match ending {
+                Ending::ReadFault => 3,
+                Ending::Malformed => 2,
+                Ending::Budget => 6,
+                Ending::Done => { if refused { 5 } else { 0 } }
+            }
+        }
+    }
+}
+
+/// The line that tells a bad word.
+fn bad_word_line(place: u32) -> [u8; 16]
+    requires { place < 3 }
+    ensures { result ≡ bad_word_line place }
+{
+    match place {
+        0 => *b"esb: bad word 0\n",
+        1 => *b"esb: bad word 1\n",
+        _ => *b"esb: bad word 2\n",
+    }
+}
+
+/// Serves a client until its input ends.
+fn converse<S: Source, K: Sink, H: Host>(
+    alloc: Global,
+    source: &mut S,
+    sink: &mut K,
+    host: &mut H,
+) -> Session
+    ensures { IsSession H.tells K.tells S.tells
+        (record { world = H.world host.old; host_faults = H.faults host.old; holds = K.holds sink.old; sink_faults = K.faults sink.old; whole = true; unread = S.left source.old; source_faults = S.faults source.old })
+        (record { world = H.world host.new; host_faults = H.faults host.new; holds = K.holds sink.new; sink_faults = K.faults sink.new; whole = true; unread = S.left source.new; source_faults = S.faults source.new })
+        result.status result.journal.events }
+{
+    let Ok(mut history) = History::new(alloc) else {
+        return end_with(alloc, 5, no_events(alloc));
+    };
+    let mut whole = put(sink, &GREETING, true);
+    let mut refused = false;
+    let ending = serve(
+        alloc,
+        &mut history,
+        source,
+        sink,
+        host,
+        &mut whole,
+        &mut refused,
+    );
+    let status = status_of(ending, whole, refused);
+    history.end_of_input();
+    history.is_legal();
+    end_with(alloc, status, history.into_journal())
+}
+
+/// Runs the words: `service --serial` serves a client on one thread.
+///
+/// A word that is none of the known ones is told on the sink, and ends the session with status 1.
+pub fn run_serial<S: Source, K: Sink, H: Host>(
+    alloc: Global,
+    words: &[Text],
+    source: &mut S,
+    sink: &mut K,
+    host: &mut H,
+) -> Session
+    ensures bad_status { (place : ℕ) → bad_place words.now ≡ Some place → result.status ≡ 1 }
+    ensures bad_journal { (place : ℕ) → bad_place words.now ≡ Some place → result.journal.events ≡ [] }
+    ensures bad_line { (place : ℕ) → bad_place words.now ≡ Some place → (before so_far : Listed ℕ) → Wrote K.tells before (K.holds sink.old) so_far true
+        → Wrote K.tells before (K.holds sink.new) (so_far ++ bad_word_line place) false }
+    ensures session { bad_place words.now ≡ None → IsSession H.tells K.tells S.tells
+        (record { world = H.world host.old; host_faults = H.faults host.old; holds = K.holds sink.old; sink_faults = K.faults sink.old; whole = true; unread = S.left source.old; source_faults = S.faults source.old })
+        (record { world = H.world host.new; host_faults = H.faults host.new; holds = K.holds sink.new; sink_faults = K.faults sink.new; whole = true; unread = S.left source.new; source_faults = S.faults source.new })
+        result.status result.journal.events }
+{
+    match read_words(words) {
+        Ok(Words) => converse(alloc, source, sink, host),
+        Err(BadWord { place }) => {
+            let _ = put(sink, &bad_word_line(place), true);
+            end_with(alloc, 1, no_events(alloc))
+        }
+    }
+}

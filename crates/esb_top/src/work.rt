@@ -1,0 +1,227 @@
+//! The work of the one worker on the builds.
+ghost use Rattle.std.specs.Prelude.{◌≡◌, ◌⊎◌, ◌+◌, ◌<◌, ◌≤◌, true, Some, [], ◌∷◌, ◌++◌, length, IfOk, OnOk, OnErr};
+ghost use Rattle.esb_base.specs.Faults.{Rose};
+ghost use Rattle.esb_ask.specs.Table.{fits};
+ghost use Rattle.esb_core.specs.Allowed.{first_job};
+ghost use Rattle.esb_core.specs.declared.event.Event.{Event};
+ghost use Rattle.esb_core.specs.History.{is_legal, replay};
+ghost use Rattle.esb_core.specs.State.{build_at};
+ghost use Rattle.esb_scan.specs.declared.run.Run.TheVariants as runs;
+ghost use Rattle.esb_scan.specs.Run.{run};
+ghost use Rattle.esb_scan.specs.Complete.{IsComplete};
+ghost use Rattle.esb_sound.specs.Sound.{IsLinked, Sound};
+ghost use Rattle.esb_sound.specs.Told.{told};
+ghost use Rattle.esb_top.specs.Entries.{Kept};
+ghost use Rattle.esb_top.specs.Work.{Answered, AtLink, AtWork, Linked, Worked};
+
+use crate::history::History;
+use esb_ask::{Answer, Outcome, Product, Question, Table, Task};
+use esb_base::{Host, KindAnswer, Memory, ReadAnswer, Shared};
+use esb_core::{Event, Job, Role};
+use esb_flags::Options;
+use esb_link::{LinkFault, link};
+use esb_scan::{Run, run_task};
+use esb_sound::links_are_ready;
+use std::alloc::Global;
+
+/// What the host answers to a question, in a build's turn.
+fn ask<H: Host>(host: &mut H, turn: u32, question: &Question) -> Result<Answer, Memory>
+    ensures fitting { IfOk result (λ answer. fits question.now answer ≡ true) }
+    ensures from_host { H.tells → IfOk result (λ answer. (answer ≡ told (H.world host.old) turn question.now) ⊎ (answer ≡ Answer.Fault)) }
+    ensures fault { IfOk result (λ answer. answer ≡ Answer.Fault → Rose (H.faults host.old) (H.faults host.new)) }
+    ensures world { H.tells → H.world host.new ≡ H.world host.old }
+    ensures never_falls { H.faults host.old ≤ H.faults host.new }
+{
+    match question {
+        Question::Kind(path) => match host.kind(turn, path) {
+            KindAnswer::File => Ok(Answer::File),
+            KindAnswer::Folder => Ok(Answer::Folder),
+            KindAnswer::Missing => Ok(Answer::Missing),
+            KindAnswer::Fault => Ok(Answer::Fault),
+            KindAnswer::Memory => Err(Memory),
+        },
+        Question::Read(path) => match host.read(turn, path) {
+            ReadAnswer::Bytes(contents) => Ok(Answer::Bytes(contents)),
+            ReadAnswer::Missing => Ok(Answer::Missing),
+            ReadAnswer::TooBig => Ok(Answer::TooBig),
+            ReadAnswer::Fault => Ok(Answer::Fault),
+            ReadAnswer::Memory => Err(Memory),
+        },
+    }
+}
+
+/// Asks the host a question of a build, and records the answer.
+fn answer<H: Host>(
+    history: &mut History,
+    host: &mut H,
+    build: u32,
+    question: &Question,
+) -> Result<(), Memory>
+    requires { build < length (replay history.old.events).builds }
+    ensures ok { OnOk result (Answered H.tells (H.world host.old) (H.faults host.old) (H.faults host.new) history.old history.new build question.now) }
+    ensures err { OnErr result (Kept history.old history.new) }
+    ensures world { H.tells → H.world host.new ≡ H.world host.old }
+    ensures never_falls { H.faults host.old ≤ H.faults host.new }
+{
+    let answer = ask(host, build, question)?;
+    history.record(build, question, answer)
+}
+
+/// The product of a claimed task. It asks the host what the build has no answer to, one question at most.
+fn product_of<H: Host>(
+    alloc: Global,
+    history: &mut History,
+    host: &mut H,
+    build: u32,
+    task: &Task,
+    options: &Options,
+) -> Result<Product, Memory>
+    requires at { AtWork (replay history.old.events) build task.now }
+    requires options { options.now ≡ (build_at (replay history.old.events).builds build).options }
+    ensures product { IfOk result (λ product. run options.now (build_at (replay history.new.events).builds build).table task.now ≡ runs.Done product) }
+    ensures options { (build_at (replay history.new.events).builds build).options ≡ options.now }
+    ensures at { AtWork (replay history.new.events) build task.now }
+    ensures worked { Worked H.tells (H.world host.old) (H.faults host.old) (H.faults host.new) history.old.events history.new.events }
+    ensures room { history.old.promised ≤ history.new.promised }
+    ensures world { H.tells → H.world host.new ≡ H.world host.old }
+    ensures never_falls { H.faults host.old ≤ H.faults host.new }
+{
+    history.is_legal();
+    match run_task(alloc, options, history.table(build), task) {
+        Run::Done(product) => Ok(product),
+        Run::Memory => Err(Memory),
+        Run::Asks(question) => {
+            answer(history, host, build, &question)?;
+            match run_task(alloc, options, history.table(build), task) {
+                Run::Done(product) => Ok(product),
+                Run::Asks(_) | Run::Memory => Err(Memory),
+            }
+        }
+    }
+}
+
+/// Does a claimed task, and delivers its product.
+fn try_scan<H: Host>(
+    alloc: Global,
+    history: &mut History,
+    host: &mut H,
+    build: u32,
+    task: &Task,
+) -> Result<(), Memory>
+    requires at { AtWork (replay history.old.events) build task.now }
+    requires room { 0 < history.old.promised }
+    ensures at { OnErr result (AtWork (replay history.new.events) build task.now) }
+    ensures worked { Worked H.tells (H.world host.old) (H.faults host.old) (H.faults host.new) history.old.events history.new.events }
+    ensures room { OnErr result (history.old.promised ≤ history.new.promised) }
+    ensures room_after { OnOk result (history.old.promised ≤ history.new.promised + 1) }
+    ensures world { H.tells → H.world host.new ≡ H.world host.old }
+    ensures never_falls { H.faults host.old ≤ H.faults host.new }
+{
+    let options = history.view(build)?.options;
+    let product = product_of(alloc, history, host, build, task, options.get())?;
+    history.is_legal();
+    history.deliver(build, task, product)
+}
+
+/// How a build ends whose answers are complete.
+fn linked(alloc: Global, options: &Options, table: &Table) -> Outcome
+    requires { IsComplete options.now table.now }
+    ensures { IsLinked options.now table.now result }
+{
+    match link(alloc, options, table) {
+        Ok(files) => match Shared::new(alloc, files) {
+            Ok(files) => Outcome::Files(files),
+            Err(Memory) => Outcome::Memory,
+        },
+        Err(LinkFault::Errors(messages)) => match Shared::new(alloc, messages) {
+            Ok(messages) => Outcome::Errors(messages),
+            Err(Memory) => Outcome::Memory,
+        },
+        Err(LinkFault::Memory) => Outcome::Memory,
+    }
+}
+
+/// Does a claimed task. Where memory is refused the build is settled so, which is told.
+fn scan<H: Host>(
+    alloc: Global,
+    history: &mut History,
+    host: &mut H,
+    build: u32,
+    task: &Task,
+) -> bool
+    requires at { AtWork (replay history.old.events) build task.now }
+    requires room { 0 < history.old.promised }
+    ensures worked { Worked H.tells (H.world host.old) (H.faults host.old) (H.faults host.new) history.old.events history.new.events }
+    ensures room { history.old.promised ≤ history.new.promised + 1 }
+    ensures world { H.tells → H.world host.new ≡ H.world host.old }
+    ensures never_falls { H.faults host.old ≤ H.faults host.new }
+{
+    if try_scan(alloc, history, host, build, task).is_ok() {
+        return false;
+    }
+    give_up(history, build, task);
+    true
+}
+
+/// Settles the build of a claimed task as refused memory.
+fn give_up(history: &mut History, build: u32, task: &Task)
+    requires at { AtWork (replay history.old.events) build task.now }
+    requires room { 0 < history.old.promised }
+    ensures added { history.new.events ≡ history.old.events ++ Event.Settle 0 build Outcome.Memory ∷ [] }
+    ensures legal { is_legal history.old.events ≡ true }
+    ensures room { history.old.promised ≤ history.new.promised + 1 }
+{
+    let _ = task;
+    history.is_legal();
+    history.settle(build, Outcome::Memory);
+}
+
+/// How a build ends whose link is claimed.
+fn outcome_of(alloc: Global, history: &History, build: u32) -> Outcome
+    requires begun { build < length (replay history.now.events).builds }
+    requires complete { IsComplete (build_at (replay history.now.events).builds build).options (build_at (replay history.now.events).builds build).table }
+    ensures { IsLinked (build_at (replay history.now.events).builds build).options (build_at (replay history.now.events).builds build).table result }
+{
+    match history.view(build) {
+        Ok(view) => linked(alloc, view.options.get(), history.table(build)),
+        Err(Memory) => Outcome::Memory,
+    }
+}
+
+/// Links a build whose link is claimed. Where memory is refused the build is settled so, which is told.
+fn link_build(alloc: Global, history: &mut History, build: u32) -> bool
+    requires at { AtLink (replay history.old.events) build }
+    requires complete { IsComplete (build_at (replay history.old.events).builds build).options (build_at (replay history.old.events).builds build).table }
+    requires room { 0 < history.old.promised }
+    ensures { Linked history.old history.new build }
+{
+    history.is_legal();
+    let outcome = outcome_of(alloc, history, build);
+    let refused = matches!(outcome, Outcome::Memory);
+    history.settle(build, outcome);
+    refused
+}
+
+/// Does the worker's first open job. It tells whether memory was refused after the claim, and answers `Memory` where it was
+/// refused before.
+pub(crate) fn do_job<H: Host>(
+    alloc: Global,
+    history: &mut History,
+    host: &mut H,
+    job: &Job,
+) -> Result<bool, Memory>
+    requires first { first_job (replay history.old.events) (Role.Worker 0) ≡ Some job.now }
+    requires sound { Sound history.old.events }
+    ensures worked { Worked H.tells (H.world host.old) (H.faults host.old) (H.faults host.new) history.old.events history.new.events }
+    ensures room { history.old.promised ≤ history.new.promised }
+    ensures world { H.tells → H.world host.new ≡ H.world host.old }
+    ensures never_falls { H.faults host.old ≤ H.faults host.new }
+{
+    links_are_ready();
+    history.is_legal();
+    history.claim(job)?;
+    match job {
+        Job::Scan { build, task } => Ok(scan(alloc, history, host, *build, task)),
+        Job::Link { build } => Ok(link_build(alloc, history, *build)),
+    }
+}
