@@ -43,6 +43,7 @@ wrote-nothing before = record { written = []; left = []; parts = refl; holds = s
 any-whole : (ht kt st : Type 0) (was now : Outside) (status : ℕ) (journal : List Event) → IsSession ht kt st was now status journal → IsSession ht kt st was (record now { whole = true }) status journal
 any-whole ht kt st was now status journal s = record {
   legal = s.legal;
+  ended = s.ended;
   sound = s.sound;
   from_host = s.from_host;
   counted = s.counted;
@@ -87,6 +88,7 @@ module _ (ht kt st : Type 0) (was mid : Outside) (old : Entries) (fresh : old.ev
     pub session-refused : is_legal final ≡ true → Refused ht kt mid now old new → IsSession ht kt st was now 5 final
     session-refused legal r = record {
       legal = legal;
+      ended = λ not_five. absurd (not_five refl);
       sound = final_sound;
       from_host = final_told;
       counted = final_counted;
@@ -117,6 +119,7 @@ module _ (ht kt st : Type 0) (was mid : Outside) (old : Entries) (fresh : old.ev
     unwhole : is_legal final ≡ true → Rose was.sink_faults now.sink_faults → (kt → IsWritten was.holds now.holds (greeting ++ sent new.events) false) → IsSession ht kt st was now 4 final
     unwhole legal rose w = record {
       legal = legal;
+      ended = λ not_five. (new.events, is);
       sound = final_sound;
       from_host = final_told;
       counted = final_counted;
@@ -131,6 +134,7 @@ module _ (ht kt st : Type 0) (was mid : Outside) (old : Entries) (fresh : old.ev
         → (st → was.unread ≡ flat_map frame (arrivals new.events) ++ unread) → EndsBy st (Rose mid.source_faults now.source_faults) unread reads ending → IsSession ht kt st was now (status_by ending refused) final
     by_ending endings.ReadFault refused unread reads legal w read e = record {
       legal = legal;
+      ended = λ not_five. (new.events, is);
       sound = final_sound;
       from_host = final_told;
       counted = final_counted;
@@ -142,6 +146,7 @@ module _ (ht kt st : Type 0) (was mid : Outside) (old : Entries) (fresh : old.ev
     }
     by_ending endings.Malformed refused unread reads legal w read e = record {
       legal = legal;
+      ended = λ not_five. (new.events, is);
       sound = final_sound;
       from_host = final_told;
       counted = final_counted;
@@ -153,6 +158,7 @@ module _ (ht kt st : Type 0) (was mid : Outside) (old : Entries) (fresh : old.ev
     }
     by_ending endings.Budget refused unread reads legal w read e = record {
       legal = legal;
+      ended = λ not_five. (new.events, is);
       sound = final_sound;
       from_host = final_told;
       counted = final_counted;
@@ -164,6 +170,7 @@ module _ (ht kt st : Type 0) (was mid : Outside) (old : Entries) (fresh : old.ev
     }
     by_ending endings.Done true unread reads legal w read e = record {
       legal = legal;
+      ended = λ not_five. (new.events, is);
       sound = final_sound;
       from_host = final_told;
       counted = final_counted;
@@ -175,6 +182,7 @@ module _ (ht kt st : Type 0) (was mid : Outside) (old : Entries) (fresh : old.ev
     }
     by_ending endings.Done false unread reads legal w read e = record {
       legal = legal;
+      ended = λ not_five. (new.events, is);
       sound = final_sound;
       from_host = final_told;
       counted = final_counted;
@@ -205,6 +213,7 @@ module _ (ht kt st : Type 0) (was mid : Outside) (old : Entries) (fresh : old.ev
 pub session-none : (ht kt st : Type 0) (was : Outside) (journal : List Event) → journal ≡ [] → IsSession ht kt st was was 5 journal
 session-none ht kt st was journal none = subst (λ (es : List Event). IsSession ht kt st was was 5 es) (sym none) (record {
   legal = refl;
+  ended = λ not_five. absurd (not_five refl);
   sound = tt;
   from_host = λ t. tt;
   counted = inl (omega arith);

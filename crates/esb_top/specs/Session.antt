@@ -1,11 +1,12 @@
 -- What a session on one thread promises.
-use Rattle.std.specs.Prelude.{◌≡◌, ℕ, ◌==◌, Bool, true, false, not, ◌||◌, List, [], ◌++◌, Result, Ok, Err}
+use Rattle.std.specs.Prelude.{◌≡◌, ℕ, ◌==◌, Bool, true, false, not, ◌||◌, List, [], ◌∷◌, ◌++◌, Result, Ok, Err}
 use Rattle.std.specs.List.{flat_map}
 use Rattle.esb_base.specs.Faults.{Rose}
 use Rattle.esb_base.specs.declared.memory.Memory.{Memory}
 use Rattle.esb_wire.specs.Spelling.{frame}
 use Rattle.esb_wire.specs.Stream.{BeginsWithNone}
 use Rattle.esb_core.specs.declared.event.Event.{Event}
+use Rattle.esb_core.specs.declared.event.Event.TheVariants as events
 use Rattle.esb_core.specs.History.{is_legal}
 use Rattle.esb_sound.specs.Sound.{Sound}
 use Rattle.esb_sound.specs.Sent.{arrivals, sent}
@@ -43,9 +44,15 @@ pub record IsCutAt (all : List ℕ) (journal : List Event) : Type 0 where
   pub none : BeginsWithNone rest
   pub some : rest ≡ [] → ⊥
 
+-- the end of the input is the last event
+abbrev pub HasEnded : List Event → Type 0
+HasEnded journal = (before : List Event) × (journal ≡ before ++ events.EndOfInput ∷ [])
+
 -- A session: the journal is one legal and right history, its answers are the host's own, the sink holds what the journal sent, and each status has its cause.
 pub record IsSession (host_tells sink_tells source_tells : Type 0) (was now : Outside) (status : ℕ) (journal : List Event) : Type 0 where
   pub legal : is_legal journal ≡ true
+  -- no packet arrives after the end of the input
+  pub ended : (status ≡ 5 → ⊥) → HasEnded journal
   pub sound : Sound journal
   pub from_host : host_tells → AreTold was.world journal
   pub counted : RoseBy (faults journal) was.host_faults now.host_faults
