@@ -1,0 +1,5 @@
+pub mod Stars
+pub mod Escapes
+pub mod Decimals
+pub mod Nodes
+pub mod Opened

@@ -1,0 +1,5 @@
+pub mod Units
+pub mod Segments
+pub mod Keys
+pub mod Outcomes
+pub mod Targets
