@@ -1,7 +1,7 @@
 -- What holds of each build of a list, once one of them changes or one more begins.
-use Rattle.std.proofs.Common.{◌≡◌, ℕ, zero, suc, ◌<◌, Bool, true, false, cond, List, [], ◌∷◌, ◌++◌, length, refl, sym, subst, arith, nat_eq, slice_set}
+use Rattle.std.proofs.Common.{◌≡◌, ℕ, zero, suc, ◌<◌, Bool, true, false, cond, List, [], ◌∷◌, ◌++◌, length, refl, sym, subst, nat_eq, slice_set}
 use Rattle.std.proofs.lemmas.Bool.{eqb-true}
-use Rattle.esb_core.specs.State.{Building, build_at, no_build}
+use Rattle.esb_core.specs.State.{Building, build_at}
 use Rattle.esb_core.proofs.Readings.{at-set}
 
 -- one build changes

@@ -3,3 +3,4 @@ pub mod Finished
 pub mod Links
 pub mod Owed
 pub mod Tasks
+pub mod Serial

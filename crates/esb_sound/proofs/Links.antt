@@ -1,5 +1,5 @@
 -- Where the link of a build is open, its answers are complete.
-use Rattle.std.proofs.Common.{◌≡◌, ℕ, zero, suc, ◌+◌, ◌<◌, ◌≤◌, Bool, true, false, ◌&&◌, List, [], ◌∷◌, ◌++◌, length, drop, map, Option, None, Some, Ok, Err, refl, sym, ap, subst, ◌∙◌, arith, nat_lt, slice_index_or}
+use Rattle.std.proofs.Common.{◌≡◌, ℕ, zero, suc, ◌<◌, Bool, true, false, ◌&&◌, List, [], ◌∷◌, ◌++◌, length, map, Some, Ok, Err, refl, sym, ap, ◌∙◌, arith, nat_lt, slice_index_or}
 use Rattle.std.proofs.lemmas.Bool.{ltb-true}
 use Rattle.esb_wire.specs.declared.value.Packet.{Packet}
 use Rattle.esb_flags.specs.declared.options.Options.{Options}
@@ -10,8 +10,6 @@ use Rattle.esb_flags.specs.Command.{asked}
 use Rattle.esb_ask.specs.declared.question.Question.{Question}
 use Rattle.esb_ask.specs.declared.answer.Answer.{Answer}
 use Rattle.esb_ask.specs.declared.task.Task.{Task}
-use Rattle.esb_ask.specs.declared.product.Product.{Product}
-use Rattle.esb_ask.specs.declared.outcome.Outcome.{Outcome}
 use Rattle.esb_ask.specs.Table.{fits}
 use Rattle.esb_ask.specs.Tasks.{product_fits}
 use Rattle.esb_core.specs.declared.event.Job.{Job}
@@ -28,7 +26,6 @@ use Rattle.esb_core.specs.History.{no_begun, build, table, is_legal, is_legal_fr
 use Rattle.esb_core.proofs.Claims.{claim-is, scan-is, link-is, both_parts}
 use Rattle.esb_core.proofs.Readings.{Reads, begun_of}
 use Rattle.esb_core.proofs.Laws.{reads-step, reads-legal}
-use Rattle.esb_scan.specs.declared.run.Run.TheVariants as run_of
 use Rattle.esb_scan.specs.Run.{run}
 use Rattle.esb_scan.specs.Complete.{IsComplete}
 use Rattle.esb_sound.specs.Each.{Each-from}

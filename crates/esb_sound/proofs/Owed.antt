@@ -1,5 +1,5 @@
 -- What is owed stays ready to be sent.
-use Rattle.std.proofs.Common.{◌≡◌, ℕ, zero, suc, ◌+◌, ◌<◌, ◌≤◌, ◌^◌, Bool, true, false, cond, not, ◌&&◌, List, [], ◌∷◌, ◌++◌, length, drop, Option, None, Some, IsSome, Ok, Err, refl, sym, ap, subst, ◌∙◌, arith, nat_lt, slice_get, slice_set, true≢false}
+use Rattle.std.proofs.Common.{◌≡◌, ℕ, zero, suc, ◌<◌, ◌^◌, Bool, true, false, not, ◌&&◌, List, [], ◌∷◌, ◌++◌, length, drop, Option, None, Some, IsSome, Ok, Err, refl, sym, ap, subst, arith, nat_lt, slice_get, slice_set, true≢false}
 use Rattle.std.specs.List.{AllByRecursion}
 use Rattle.std.specs.Prelude.{is_some}
 use Rattle.std.proofs.lemmas.List.{get_or-set_same}
@@ -20,7 +20,6 @@ use Rattle.esb_ask.specs.Table.{fits}
 use Rattle.esb_ask.specs.Tasks.{product_fits}
 use Rattle.esb_core.specs.declared.out.Out.{Out}
 use Rattle.esb_core.specs.declared.out.Out.TheVariants as out
-use Rattle.esb_core.specs.declared.out.Body.{Body}
 use Rattle.esb_core.specs.declared.out.Body.TheVariants as body
 use Rattle.esb_core.specs.declared.event.Job.{Job}
 use Rattle.esb_core.specs.declared.event.Job.TheVariants as job
@@ -34,7 +33,7 @@ use Rattle.esb_core.specs.Steps.{after, after_packet, after_command, begun_if, m
 use Rattle.esb_core.specs.Allowed.{allowed, has_begun, first_job, names_job, has_task, may_settle, may_arrive, is_proper, id_limit}
 use Rattle.esb_core.specs.History.{is_legal, is_legal_from, replay, replay_from}
 use Rattle.esb_core.proofs.Claims.{claim-is, scan-is, link-is, both_parts}
-use Rattle.esb_sound.specs.Ready.{IsReady, IsReadyBody}
+use Rattle.esb_sound.specs.Ready.{IsReady}
 use Rattle.esb_sound.proofs.Builds.{set-each, push-each}
 
 -- each waiting request has an id that fits, and all that is owed is ready

@@ -3,3 +3,4 @@ pub mod Sound
 pub mod Sent
 pub mod Told
 pub mod Ready
+pub mod Serial

@@ -1,6 +1,8 @@
 //! Laws over every list of events. Each function's contract is the law, and its body does nothing.
 
 ghost use Rattle.std.specs.Prelude.{◌≡◌, ◌<◌, ◌^◌, ℕ, List, true, Some, slice_get};
+ghost use Rattle.esb_base.specs.World.{Folder};
+ghost use Rattle.esb_wire.specs.declared.value.Packet.{Packet};
 ghost use Rattle.esb_core.specs.declared.event.Event.{Event};
 ghost use Rattle.esb_core.specs.declared.event.Job.TheVariants as jobs;
 ghost use Rattle.esb_core.specs.declared.out.Out.{Out};
@@ -8,6 +10,7 @@ ghost use Rattle.esb_core.specs.Allowed.{job_of};
 ghost use Rattle.esb_core.specs.History.{is_legal, replay};
 ghost use Rattle.esb_core.specs.State.{build_at};
 ghost use Rattle.esb_scan.specs.Complete.{IsComplete};
+ghost use Rattle.esb_sound.specs.Serial.{IsSerial};
 ghost use Rattle.esb_sound.specs.Sound.{Sound};
 ghost use Rattle.esb_sound.specs.Ready.{IsReady};
 
@@ -22,4 +25,10 @@ pub fn links_are_ready()
 pub fn replies_are_ready()
     ensures { (events : List Event) (out : Out) → is_legal events ≡ true
         → slice_get (replay events).owed 0 ≡ Some out → IsReady (replay events).builds out }
+{}
+
+/// A world and the packets of an input have one history on one thread. So what is sent is a function of the packets and the
+/// folders.
+pub fn serial_histories_are_one()
+    ensures { (world : List Folder) (packets : List Packet) (one other : List Event) → IsSerial world packets one → IsSerial world packets other → one ≡ other }
 {}

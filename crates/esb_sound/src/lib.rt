@@ -3,4 +3,4 @@
 
 mod laws;
 
-pub use laws::{links_are_ready, replies_are_ready};
+pub use laws::{links_are_ready, replies_are_ready, serial_histories_are_one};

@@ -1,4 +1,5 @@
 pub mod Histories
+pub mod InOrder
 pub mod Outputs
 pub mod Proper
 pub mod Sessions

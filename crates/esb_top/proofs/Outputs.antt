@@ -102,3 +102,7 @@ wrote-part before now bytes whole w = record { written = w.written; left = w.lef
 pub on_err : {X E : Type 0} (result : Result X E) (P : Type 0) → P → OnErr result P
 on_err (Ok x) P p = tt
 on_err (Err e) P p = p
+
+pub on_err-map : {X E : Type 0} {P Q : Type 0} (result : Result X E) → (P → Q) → OnErr result P → OnErr result Q
+on_err-map (Ok x) f p = tt
+on_err-map (Err e) f p = f p

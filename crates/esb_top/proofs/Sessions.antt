@@ -1,7 +1,11 @@
 -- A session is as promised.
-use Rattle.std.proofs.Common.{◌≡◌, ℕ, ◌+◌, ◌≤◌, Bool, true, false, not, ◌||◌, List, [], ◌∷◌, ◌++◌, inl, inr, refl, sym, ap, subst, ◌∙◌, arith, eqb}
+use Rattle.std.proofs.Common.{◌≡◌, ◌⊎◌, ℕ, ◌+◌, ◌<◌, ◌≤◌, cond, Option, Some, None, Bool, true, false, not, ◌||◌, List, [], ◌∷◌, ◌++◌, inl, inr, refl, sym, ap, subst, ◌∙◌, arith, eqb}
 use Rattle.std.specs.List.{flat_map}
 use Rattle.std.proofs.lemmas.Bool.{false≢true}
+use Rattle.std.proofs.lemmas.List.Sums.{sum_by-append}
+use Rattle.esb_core.specs.State.{start}
+use Rattle.esb_core.proofs.Claims.{both_parts}
+use Rattle.esb_core.proofs.Replays.{is_legal_from-append}
 use Rattle.std.specs.Prelude.{Result, Ok, Err, IfOk, OnErr}
 use Rattle.esb_base.specs.Faults.{Rose}
 use Rattle.esb_base.specs.declared.memory.Memory.{Memory}
@@ -11,14 +15,20 @@ use Rattle.esb_wire.specs.Stream.{BeginsWithNone}
 use Rattle.esb_wire.specs.Written.{written_frame}
 use Rattle.esb_core.specs.declared.event.Event.{Event}
 use Rattle.esb_core.specs.declared.event.Event.TheVariants as events
-use Rattle.esb_core.specs.History.{is_legal}
+use Rattle.esb_core.specs.History.{is_legal, is_legal_from, replay}
 use Rattle.esb_sound.specs.Sound.{Sound, IsSound}
 use Rattle.esb_sound.specs.Sent.{arrivals, sent, sent_packets}
 use Rattle.esb_sound.specs.Told.{AreTold, IsTold, RoseBy, faults}
 use Rattle.esb_top.specs.declared.session.Ending.{Ending}
 use Rattle.esb_top.specs.declared.session.Ending.TheVariants as endings
 use Rattle.esb_top.specs.Entries.{Entries}
-use Rattle.esb_top.specs.Input.{EndsBy}
+use Rattle.esb_wire.specs.Budget.{budget}
+use Rattle.esb_wire.specs.Stream.{Counts}
+use Rattle.esb_sound.specs.Serial.{InTurn, IsSerial, input_step, is_lapse, lapses, next}
+use Rattle.esb_sound.proofs.Serial.{all-follow, get-past}
+use Rattle.esb_top.specs.Input.{Begins, EndsBy, HasRead}
+use Rattle.esb_top.specs.Turn.{IsAtRest}
+use Rattle.esb_top.proofs.InOrder.{next-read}
 use Rattle.esb_top.specs.Output.{IsWritten, Wrote, FailedSince}
 use Rattle.esb_top.specs.Serving.{Ends, Outside, Refused, Serving}
 use Rattle.esb_top.specs.Session.{IsSession, IsCutAt, is_whole, status_by, status_if, status_of}
@@ -35,6 +45,10 @@ sent-end es fs is = ap sent is ∙ ap (λ (ps : List Packet). flat_map written_f
 arrivals-end : (es fs : List Event) → fs ≡ es ++ events.EndOfInput ∷ [] → arrivals fs ≡ arrivals es
 arrivals-end es fs is = ap arrivals is ∙ arrivals-push es events.EndOfInput ∙ list_end (arrivals es)
 
+neither : {A B X : Type 0} → A ⊎ B → (A → X) → (B → X) → X
+neither (inl a) f g = f a
+neither (inr b) f g = g b
+
 -- nothing was written so far
 pub wrote-nothing : (before : List ℕ) → IsWritten before before [] true
 wrote-nothing before = record { written = []; left = []; parts = refl; holds = sym (list_end before); all = λ e. refl }
@@ -42,25 +56,36 @@ wrote-nothing before = record { written = []; left = []; parts = refl; holds = s
 -- a session says nothing of whether a sink is whole
 any-whole : (ht kt st : Type 0) (was now : Outside) (status : ℕ) (journal : List Event) → IsSession ht kt st was now status journal → IsSession ht kt st was (record now { whole = true }) status journal
 any-whole ht kt st was now status journal s = record {
+  known = s.known;
   legal = s.legal;
   ended = s.ended;
   sound = s.sound;
   from_host = s.from_host;
   counted = s.counted;
+  serial = s.serial;
   sends = s.sends;
   write_fault = s.write_fault;
   read_fault = s.read_fault;
+  stream = s.stream;
   malformed = s.malformed;
   whole_input = s.whole_input;
+  reads = s.reads;
+  read = s.read;
+  within_budget = s.within_budget;
+  spent = s.spent;
+  unspent = s.unspent;
 }
 
 module _ (ht kt st : Type 0) (was mid : Outside) (old : Entries) (fresh : old.events ≡ []) (same_world : mid.world ≡ was.world) (same_faults : mid.host_faults ≡ was.host_faults) (same_unread : mid.unread ≡ was.unread)
-    (same_source : mid.source_faults ≡ was.source_faults) (greeted : Wrote kt was.holds mid.holds greeting mid.whole) (failed : FailedSince was.sink_faults mid.sink_faults mid.whole) (falls : was.sink_faults ≤ mid.sink_faults) where
+    (same_source : mid.source_faults ≡ was.source_faults) (same_gave : mid.gave ≡ was.gave) (greeted : Wrote kt was.holds mid.holds greeting mid.whole) (failed : FailedSince was.sink_faults mid.sink_faults mid.whole) (falls : was.sink_faults ≤ mid.sink_faults) where
   start_sound : Sound old.events
   start_sound = subst (λ (es : List Event). Sound es) (sym fresh) tt
 
   start_told : ht → AreTold mid.world old.events
   start_told t = subst (λ (es : List Event). AreTold mid.world es) (sym fresh) tt
+
+  start_turn : ht → InTurn mid.world old.events
+  start_turn t = subst (λ (es : List Event). InTurn mid.world es) (sym fresh) tt
 
   start_counted : RoseBy (faults old.events) was.host_faults mid.host_faults
   start_counted = subst (λ (es : List Event). RoseBy (faults es) was.host_faults mid.host_faults) (sym fresh) (inl (omega (arith, same_faults)))
@@ -82,22 +107,27 @@ module _ (ht kt st : Type 0) (was mid : Outside) (old : Entries) (fresh : old.ev
     final_counted =
         subst (λ (k : ℕ). RoseBy k was.host_faults now.host_faults) (sym (ap faults is ∙ faults-push new.events events.EndOfInput ∙ omega arith)) (goes.counted was.host_faults start_counted)
 
+    lapses-end : lapses final ≡ lapses new.events
+    lapses-end = ap lapses is ∙ sum_by-append (λ d. cond (is_lapse d) 1 0) new.events (events.EndOfInput ∷ []) ∙ omega arith
+
+    final_serial : is_legal new.events ≡ true → IsAtRest new.events → ht → lapses final ≡ 0 → IsSerial was.world (arrivals final) final
+    final_serial legal rest t none =
+        let turn : InTurn was.world new.events = subst (λ w. InTurn w new.events) same_world (goes.in_turn t (start_turn t)) in
+        subst (λ (ps : List Packet). IsSerial was.world ps final) (sym (arrivals-end new.events final is)) record {
+          before = new.events;
+          steps = all-follow was.world new.events turn (sym lapses-end ∙ none);
+          last = next-read was.world new.events (arrivals new.events) legal rest ∙ ap (λ (p : Option Packet). Some (input_step p)) (get-past (arrivals new.events));
+          whole = is;
+        }
+
+    final_reads : (reads : ℕ) → HasRead mid.gave now.gave 0 reads → Counts was.gave now.gave 0 reads
+    final_reads reads r = subst (λ (k : ℕ). Counts k now.gave 0 reads) same_gave r.counted
+
+    in_budget : (reads : ℕ) → HasRead mid.gave now.gave 0 reads → reads ≤ budget
+    in_budget reads r = r.within (omega arith)
+
     final_sent : (whole : Bool) → IsWritten was.holds now.holds (greeting ++ sent new.events) whole → IsWritten was.holds now.holds (greeting ++ sent final) whole
     final_sent whole w = subst (λ (bs : List ℕ). IsWritten was.holds now.holds (greeting ++ bs) whole) (sym (sent-end new.events final is)) w
-
-    pub session-refused : is_legal final ≡ true → Refused ht kt mid now old new → IsSession ht kt st was now 5 final
-    session-refused legal r = record {
-      legal = legal;
-      ended = λ not_five. absurd (not_five refl);
-      sound = final_sound;
-      from_host = final_told;
-      counted = final_counted;
-      sends = λ t. final_sent false (r.wrote was.holds greeting start_wrote t);
-      write_fault = λ e. absurd cc;
-      read_fault = λ e. absurd cc;
-      malformed = λ e. absurd cc;
-      whole_input = λ e. absurd cc;
-    }
 
     -- the end of an input that was not malformed, and its bytes
     final_read : (unread : List ℕ) → (st → was.unread ≡ flat_map frame (arrivals new.events) ++ unread) → st → was.unread ≡ flat_map frame (arrivals final) ++ unread
@@ -105,6 +135,28 @@ module _ (ht kt st : Type 0) (was mid : Outside) (old : Entries) (fresh : old.ev
 
     start_read : st → was.unread ≡ flat_map frame (arrivals old.events) ++ mid.unread
     start_read t = subst (λ (es : List Event). was.unread ≡ flat_map frame (arrivals es) ++ mid.unread) (sym fresh) (sym same_unread)
+
+    pub session-refused : is_legal final ≡ true → Refused ht kt st mid now old new → IsSession ht kt st was now 5 final
+    session-refused legal r = record {
+      known = refl;
+      legal = legal;
+      ended = λ not_five. absurd (not_five refl);
+      sound = final_sound;
+      from_host = final_told;
+      counted = final_counted;
+      serial = λ t not_five. absurd (not_five refl);
+      sends = λ t. final_sent false (r.wrote was.holds greeting start_wrote t);
+      write_fault = λ e. absurd cc;
+      read_fault = λ e. absurd cc;
+      stream = λ t. subst (λ (ps : List Packet). Begins was.unread (flat_map frame ps)) (sym (arrivals-end new.events final is)) (r.stream was.unread start_read t);
+      malformed = λ e. absurd cc;
+      whole_input = λ e. absurd cc;
+      reads = r.reads;
+      read = final_reads r.reads r.read;
+      within_budget = in_budget r.reads r.read;
+      spent = λ e. absurd cc;
+      unspent = λ x. neither x (λ y. absurd cc) (λ y. absurd cc);
+    }
 
     cut : (unread : List ℕ) → (st → was.unread ≡ flat_map frame (arrivals new.events) ++ unread) → (st → BeginsWithNone unread × (unread ≡ [] → ⊥)) → st → IsCutAt was.unread final
     cut unread read none t = record { rest = unread; parts = final_read unread read t; none = (none t).0; some = (none t).1 }
@@ -115,111 +167,173 @@ module _ (ht kt st : Type 0) (was mid : Outside) (old : Entries) (fresh : old.ev
     rose_source : Rose mid.source_faults now.source_faults → Rose was.source_faults now.source_faults
     rose_source r = subst (λ (n : ℕ). Rose n now.source_faults) same_source r
 
+    legal_before : is_legal final ≡ true → is_legal new.events ≡ true
+    legal_before legal = (both_parts (is_legal new.events) (is_legal_from (replay new.events) (events.EndOfInput ∷ [])) (sym (is_legal_from-append start new.events (events.EndOfInput ∷ [])) ∙ ap is_legal (sym is) ∙ legal)).0
+
     -- a session in which a write failed
-    unwhole : is_legal final ≡ true → Rose was.sink_faults now.sink_faults → (kt → IsWritten was.holds now.holds (greeting ++ sent new.events) false) → IsSession ht kt st was now 4 final
-    unwhole legal rose w = record {
+    unwhole : (unread : List ℕ) (reads : ℕ) → (st → was.unread ≡ flat_map frame (arrivals new.events) ++ unread) → is_legal final ≡ true → IsAtRest new.events → HasRead mid.gave now.gave 0 reads → Rose was.sink_faults now.sink_faults
+        → (kt → IsWritten was.holds now.holds (greeting ++ sent new.events) false) → IsSession ht kt st was now 4 final
+    unwhole unread reads read legal rest r rose w = record {
+      known = refl;
       legal = legal;
       ended = λ not_five. (new.events, is);
       sound = final_sound;
       from_host = final_told;
       counted = final_counted;
+      serial = λ t not_five none. final_serial (legal_before legal) rest t none;
       sends = λ t. final_sent false (w t);
       write_fault = λ e. rose;
       read_fault = λ e. absurd cc;
+      stream = λ t. record { rest = unread; parts = final_read unread read t };
       malformed = λ e. absurd cc;
       whole_input = λ e. absurd cc;
+      reads = reads;
+      read = final_reads reads r;
+      within_budget = in_budget reads r;
+      spent = λ x. absurd cc;
+      unspent = λ x. neither x (λ y. absurd cc) (λ y. absurd cc);
     }
 
-    by_ending : (ending : Ending) (refused : Bool) (unread : List ℕ) (reads : ℕ) → is_legal final ≡ true → (kt → IsWritten was.holds now.holds (greeting ++ sent new.events) true)
-        → (st → was.unread ≡ flat_map frame (arrivals new.events) ++ unread) → EndsBy st (Rose mid.source_faults now.source_faults) unread reads ending → IsSession ht kt st was now (status_by ending refused) final
-    by_ending endings.ReadFault refused unread reads legal w read e = record {
+    by_ending : (ending : Ending) (refused : Bool) (unread : List ℕ) (reads : ℕ) → is_legal final ≡ true → IsAtRest new.events → HasRead mid.gave now.gave 0 reads
+        → (kt → IsWritten was.holds now.holds (greeting ++ sent new.events) true) → (st → was.unread ≡ flat_map frame (arrivals new.events) ++ unread)
+        → EndsBy st (Rose mid.source_faults now.source_faults) unread reads ending → IsSession ht kt st was now (status_by ending refused) final
+    by_ending endings.ReadFault refused unread reads legal rest r w read e = record {
+      known = refl;
       legal = legal;
       ended = λ not_five. (new.events, is);
       sound = final_sound;
       from_host = final_told;
       counted = final_counted;
+      serial = λ t not_five none. final_serial (legal_before legal) rest t none;
       sends = λ t. final_sent true (w t);
       write_fault = λ x. absurd cc;
-      read_fault = λ x. rose_source e;
+      read_fault = λ x. rose_source e.0;
+      stream = λ t. record { rest = unread; parts = final_read unread read t };
       malformed = λ x. absurd cc;
       whole_input = λ x. absurd cc;
+      reads = reads;
+      read = final_reads reads r;
+      within_budget = in_budget reads r;
+      spent = λ x. absurd cc;
+      unspent = λ x. e.1;
     }
-    by_ending endings.Malformed refused unread reads legal w read e = record {
+    by_ending endings.Malformed refused unread reads legal rest r w read e = record {
+      known = refl;
       legal = legal;
       ended = λ not_five. (new.events, is);
       sound = final_sound;
       from_host = final_told;
       counted = final_counted;
+      serial = λ t not_five none. final_serial (legal_before legal) rest t none;
       sends = λ t. final_sent true (w t);
       write_fault = λ x. absurd cc;
       read_fault = λ x. absurd cc;
+      stream = λ t. record { rest = unread; parts = final_read unread read t };
       malformed = λ x. cut unread read e;
       whole_input = λ x. absurd cc;
+      reads = reads;
+      read = final_reads reads r;
+      within_budget = in_budget reads r;
+      spent = λ x. absurd cc;
+      unspent = λ x. neither x (λ y. absurd cc) (λ y. absurd cc);
     }
-    by_ending endings.Budget refused unread reads legal w read e = record {
+    by_ending endings.Budget refused unread reads legal rest r w read e = record {
+      known = refl;
       legal = legal;
       ended = λ not_five. (new.events, is);
       sound = final_sound;
       from_host = final_told;
       counted = final_counted;
+      serial = λ t not_five none. final_serial (legal_before legal) rest t none;
       sends = λ t. final_sent true (w t);
       write_fault = λ x. absurd cc;
       read_fault = λ x. absurd cc;
+      stream = λ t. record { rest = unread; parts = final_read unread read t };
       malformed = λ x. absurd cc;
       whole_input = λ x. absurd cc;
+      reads = reads;
+      read = final_reads reads r;
+      within_budget = in_budget reads r;
+      spent = λ x. e;
+      unspent = λ x. neither x (λ y. absurd cc) (λ y. absurd cc);
     }
-    by_ending endings.Done true unread reads legal w read e = record {
+    by_ending endings.Done true unread reads legal rest r w read e = record {
+      known = refl;
       legal = legal;
       ended = λ not_five. (new.events, is);
       sound = final_sound;
       from_host = final_told;
       counted = final_counted;
+      serial = λ t not_five. absurd (not_five refl);
       sends = λ t. wrote-part was.holds now.holds (greeting ++ sent final) true (final_sent true (w t));
       write_fault = λ x. absurd cc;
       read_fault = λ x. absurd cc;
+      stream = λ t. record { rest = unread; parts = final_read unread read t };
       malformed = λ x. absurd cc;
       whole_input = λ x. absurd cc;
+      reads = reads;
+      read = final_reads reads r;
+      within_budget = in_budget reads r;
+      spent = λ x. absurd cc;
+      unspent = λ x. neither x (λ y. absurd cc) (λ y. absurd cc);
     }
-    by_ending endings.Done false unread reads legal w read e = record {
+    by_ending endings.Done false unread reads legal rest r w read e = record {
+      known = refl;
       legal = legal;
       ended = λ not_five. (new.events, is);
       sound = final_sound;
       from_host = final_told;
       counted = final_counted;
+      serial = λ t not_five none. final_serial (legal_before legal) rest t none;
       sends = λ t. final_sent true (w t);
       write_fault = λ x. absurd cc;
       read_fault = λ x. absurd cc;
+      stream = λ t. record { rest = unread; parts = final_read unread read t };
       malformed = λ x. absurd cc;
-      whole_input = λ x. all_read unread read e;
+      whole_input = λ x. all_read unread read e.0;
+      reads = reads;
+      read = final_reads reads r;
+      within_budget = in_budget reads r;
+      spent = λ x. absurd cc;
+      unspent = λ x. e.1;
     }
 
-    if_whole : (whole : Bool) (ending : Ending) (refused : Bool) (unread : List ℕ) (reads : ℕ) → is_legal final ≡ true → FailedSince was.sink_faults now.sink_faults whole
-        → (kt → IsWritten was.holds now.holds (greeting ++ sent new.events) whole) → (st → was.unread ≡ flat_map frame (arrivals new.events) ++ unread)
-        → EndsBy st (Rose mid.source_faults now.source_faults) unread reads ending → IsSession ht kt st was now (status_if whole ending refused) final
-    if_whole false ending refused unread reads legal fell w read e = unwhole legal (fell refl) w
-    if_whole true ending refused unread reads legal fell w read e = by_ending ending refused unread reads legal w read e
+    if_whole : (whole : Bool) (ending : Ending) (refused : Bool) (unread : List ℕ) (reads : ℕ) → is_legal final ≡ true → IsAtRest new.events → HasRead mid.gave now.gave 0 reads
+        → FailedSince was.sink_faults now.sink_faults whole → (kt → IsWritten was.holds now.holds (greeting ++ sent new.events) whole)
+        → (st → was.unread ≡ flat_map frame (arrivals new.events) ++ unread) → EndsBy st (Rose mid.source_faults now.source_faults) unread reads ending
+        → IsSession ht kt st was now (status_if whole ending refused) final
+    if_whole false ending refused unread reads legal rest r fell w read e = unwhole unread reads read legal rest r (fell refl) w
+    if_whole true ending refused unread reads legal rest r fell w read e = by_ending ending refused unread reads legal rest r w read e
 
     pub session-ok : (ending : Ending) (refused : Bool) → is_legal final ≡ true → Ends ht kt st mid now old new ending → IsSession ht kt st was now (status_if now.whole ending refused) final
     session-ok ending refused legal e =
-        if_whole now.whole ending refused e.unread e.reads legal (e.serving.failed was.sink_faults falls failed) (e.serving.wrote was.holds greeting start_wrote)
+        if_whole now.whole ending refused e.unread e.reads legal e.rests e.read (e.serving.failed was.sink_faults falls failed) (e.serving.wrote was.holds greeting start_wrote)
         (e.serving.stream was.unread start_read) e.ends
 
   pub session-any : (new : Entries) (final : List Event) (now : Outside) (result : Result Ending Memory) (refused : Bool) → final ≡ new.events ++ events.EndOfInput ∷ [] → is_legal final ≡ true
-      → IfOk result (λ ending. Ends ht kt st mid now old new ending) → OnErr result (Refused ht kt mid now old new) → IsSession ht kt st was (record now { whole = true }) (status_of result now.whole refused) final
+      → IfOk result (λ ending. Ends ht kt st mid now old new ending) → OnErr result (Refused ht kt st mid now old new) → IsSession ht kt st was (record now { whole = true }) (status_of result now.whole refused) final
   session-any new final now (Ok ending) refused is legal ok err = any-whole ht kt st was now _ final (session-ok new final now is ok.serving.goes ending refused legal ok)
   session-any new final now (Err refusal) refused is legal ok err = any-whole ht kt st was now _ final (session-refused new final now is err.goes legal err)
 
 -- a session that never began, for want of memory
 pub session-none : (ht kt st : Type 0) (was : Outside) (journal : List Event) → journal ≡ [] → IsSession ht kt st was was 5 journal
 session-none ht kt st was journal none = subst (λ (es : List Event). IsSession ht kt st was was 5 es) (sym none) (record {
+  known = refl;
   legal = refl;
   ended = λ not_five. absurd (not_five refl);
   sound = tt;
   from_host = λ t. tt;
   counted = inl (omega arith);
+  serial = λ t not_five. absurd (not_five refl);
   sends = λ t. record { written = []; left = greeting ++ sent []; parts = refl; holds = sym (list_end was.holds); all = λ e. absurd (false≢true e) };
   write_fault = λ e. absurd cc;
   read_fault = λ e. absurd cc;
+  stream = λ t. record { rest = was.unread; parts = refl };
   malformed = λ e. absurd cc;
   whole_input = λ e. absurd cc;
+  reads = 0;
+  read = λ few. omega arith;
+  within_budget = omega arith;
+  spent = λ x. absurd cc;
+  unspent = λ x. neither x (λ y. absurd cc) (λ y. absurd cc);
 })

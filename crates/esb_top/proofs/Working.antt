@@ -33,11 +33,14 @@ use Rattle.esb_core.proofs.Laws.{reads-legal}
 use Rattle.esb_scan.specs.declared.run.Run.TheVariants as runs
 use Rattle.esb_scan.specs.Run.{run, trail}
 use Rattle.esb_scan.proofs.Runs.{asks_new, run_fits}
+use Rattle.esb_sound.specs.Serial.{IsInTurn, doing}
 use Rattle.esb_sound.specs.Sound.{Sound, IsSound, IsAsked, IsLinked}
 use Rattle.esb_sound.specs.Told.{IsTold, is_fault, is_fault_record, told}
 use Rattle.esb_top.specs.Entries.{Entries, Added, AddedWithin, Kept}
 use Rattle.esb_top.specs.Work.{Worked, AtWork, AtLink, Answered, Linked}
 use Rattle.esb_scan.specs.Complete.{IsComplete}
+use Rattle.esb_top.specs.Turn.{IsFree}
+use Rattle.esb_top.proofs.InOrder.{claim-in_turn, deliver-in_turn, doing-is, record-in_turn, refusal-in_turn, settle-in_turn}
 use Rattle.esb_top.proofs.Histories.{IsOfWork, replay-push, worked-push, worked-refl, worked-trans}
 
 -- ---- the direct answers about a legal list
@@ -88,22 +91,26 @@ fault-is (answers.Bytes contents) e = absurd (false≢true e)
 -- what an answer to an asked question leaves
 pub record Asks (tells : Type 0) (world : List Folder) (fo fn : ℕ) (old new : Entries) (n : ℕ) (t : Task) (options : Options) : Type 0 where
   pub at : AtWork (replay new.events) n t
+  pub doing_still : doing new.events ≡ Some (job.Scan n t)
   pub same_options : (build_at (replay new.events).builds n).options ≡ options
   pub worked : Worked tells world fo fn old.events new.events
   pub room : old.promised ≤ new.promised
 
 pub asked-step : (tells : Type 0) (world : List Folder) (fo fn : ℕ) (old new : Entries) (n : ℕ) (q : Question) (t : Task) (options : Options) → is_legal old.events ≡ true → AtWork (replay old.events) n t
-    → options ≡ (build_at (replay old.events).builds n).options → run options (build_at (replay old.events).builds n).table t ≡ runs.Asks q → Answered tells world fo fn old new n q → fo ≤ fn
-    → Asks tells world fo fn old new n t options
-asked-step tells world fo fn old new n q t options legal at same asks got le =
+    → options ≡ (build_at (replay old.events).builds n).options → run options (build_at (replay old.events).builds n).table t ≡ runs.Asks q → doing old.events ≡ Some (job.Scan n t)
+    → Answered tells world fo fn old new n q → fo ≤ fn → Asks tells world fo fn old new n t options
+asked-step tells world fo fn old new n q t options legal at same asks in_hand got le =
     let s = replay old.events in
     let pushed : replay new.events ≡ after s (event.Record 0 n q got.answer) = ap replay got.added.events ∙ replay-push old.events (event.Record 0 n q got.answer) in
     let leaves = record-leaves s n q got.answer at.begun at.unsettled in
+    let asks_now : run (build old.events n).options (table old.events n) t ≡ runs.Asks q =
+    ap (λ (o : Options). run o (table old.events n) t) (options-are old.events n legal ∙ sym same) ∙ ap (λ (tb : List (Question × Answer)). run options tb t) (table-is old.events n legal) ∙ asks in
     let trail_is : trail (build old.events n).options (table old.events n) t ≡ q ∷ [] =
     ap (λ (o : Options). trail o (table old.events n) t) (options-are old.events n legal ∙ sym same) ∙ ap (λ (tb : List (Question × Answer)). trail options tb t) (table-is old.events n legal)
     ∙ (asks_new options (build_at s.builds n).table t q asks).is_trail in
     record {
       at = subst (λ (u : State). AtWork u n t) (sym pushed) (at-record s n t q got.answer at);
+      doing_still = doing-is old.events new.events (event.Record 0 n q got.answer) got.added.events ∙ in_hand;
       same_options = ap (λ (u : State). (build_at u.builds n).options) pushed ∙ ap (λ (b : Building). b.options) leaves ∙ sym same;
       worked = worked-push tells world fo fn old.events new.events (event.Record 0 n q got.answer) got.added.events (record-work n q got.answer)
           (λ h. record {
@@ -111,27 +118,34 @@ asked-step tells world fo fn old new n q t options legal at same asks got le =
             claimed = at.claimed;
             on_trail = ap (λ (qs : List Question). list_any (same_question q) qs) trail_is ∙ ap (λ b. b || false) (same-refl q);
           })
-          got.from_host (λ e. got.fault (fault-is got.answer e)) le;
+          got.from_host (λ h. record-in_turn world old.events n t q got.answer in_hand asks_now (got.from_host h)) (λ e. got.fault (fault-is got.answer e)) le;
       room = got.added.room;
     }
 
 -- ---- the end of a claim
 
 pub delivered-step : (tells : Type 0) (world : List Folder) (f : ℕ) (old : Entries) (new : List Event) (n : ℕ) (t : Task) (p : Product) (options : Options) → is_legal old.events ≡ true
-    → (build_at (replay old.events).builds n).options ≡ options → run options (build_at (replay old.events).builds n).table t ≡ runs.Done p → new ≡ old.events ++ event.Deliver 0 n t p ∷ []
-    → Worked tells world f f old.events new
-delivered-step tells world f old new n t p options legal same given is =
+    → (build_at (replay old.events).builds n).options ≡ options → run options (build_at (replay old.events).builds n).table t ≡ runs.Done p → doing old.events ≡ Some (job.Scan n t)
+    → new ≡ old.events ++ event.Deliver 0 n t p ∷ [] → Worked tells world f f old.events new
+delivered-step tells world f old new n t p options legal same given in_hand is =
+    let done_now : run (build old.events n).options (table old.events n) t ≡ runs.Done p =
+    ap (λ (o : Options). run o (table old.events n) t) (options-are old.events n legal ∙ same) ∙ ap (λ (tb : List (Question × Answer)). run options tb t) (table-is old.events n legal) ∙ given in
     worked-push tells world f f old.events new (event.Deliver 0 n t p) is (record { none_arrived = refl; none_sent = λ g. refl; goes_on = λ s. refl })
-    (λ h. ap (λ (o : Options). run o (table old.events n) t) (options-are old.events n legal ∙ same) ∙ ap (λ (tb : List (Question × Answer)). run options tb t) (table-is old.events n legal) ∙ given)
-    (λ t. tt) (λ e. absurd (false≢true e)) (omega arith)
+    (λ h. done_now) (λ h. tt) (λ h. deliver-in_turn world old.events n t p in_hand done_now) (λ e. absurd (false≢true e)) (omega arith)
 
 pub settled-step : (tells : Type 0) (world : List Folder) (f : ℕ) (old : Entries) (new : List Event) (n : ℕ) (o : Outcome) → is_legal old.events ≡ true
-    → IsLinked (build_at (replay old.events).builds n).options (build_at (replay old.events).builds n).table o → new ≡ old.events ++ event.Settle 0 n o ∷ []
-    → Worked tells world f f old.events new
-settled-step tells world f old new n o legal right is =
+    → IsLinked (build_at (replay old.events).builds n).options (build_at (replay old.events).builds n).table o
+    → (IsLinked (build old.events n).options (table old.events n) o → IsInTurn world old.events (event.Settle 0 n o)) → new ≡ old.events ++ event.Settle 0 n o ∷ [] → Worked tells world f f old.events new
+settled-step tells world f old new n o legal right turn is =
+    let right_now : IsLinked (build old.events n).options (table old.events n) o =
+    subst (λ (op : Options). IsLinked op (table old.events n) o) (sym (options-are old.events n legal)) (subst (λ (tb : List (Question × Answer)). IsLinked (build_at (replay old.events).builds n).options tb o) (sym (table-is old.events n legal)) right) in
     worked-push tells world f f old.events new (event.Settle 0 n o) is (record { none_arrived = refl; none_sent = λ g. refl; goes_on = λ s. refl })
-    (λ h. subst (λ (op : Options). IsLinked op (table old.events n) o) (sym (options-are old.events n legal)) (subst (λ (tb : List (Question × Answer)). IsLinked (build_at (replay old.events).builds n).options tb o) (sym (table-is old.events n legal)) right))
-    (λ t. tt) (λ e. absurd (false≢true e)) (omega arith)
+    (λ h. right_now) (λ h. tt) (λ h. turn right_now) (λ e. absurd (false≢true e)) (omega arith)
+
+-- a build that is settled for want of memory
+pub given_up-step : (tells : Type 0) (world : List Folder) (f : ℕ) (old : Entries) (new : List Event) (n : ℕ) → is_legal old.events ≡ true → new ≡ old.events ++ event.Settle 0 n outcomes.Memory ∷ []
+    → Worked tells world f f old.events new
+given_up-step tells world f old new n legal is = settled-step tells world f old new n outcomes.Memory legal tt (λ r. refusal-in_turn world old.events n) is
 
 both : (a b : Bool) → a ≡ true → b ≡ true → (a && b) ≡ true
 both a b e f = rw (e, f) refl
@@ -180,8 +194,17 @@ pub claim-work : (j : Job) → IsOfWork (event.Claim (role.Worker 0) j)
 claim-work (job.Scan n t) = record { none_arrived = refl; none_sent = λ g. refl; goes_on = λ s. refl }
 claim-work (job.Link n) = record { none_arrived = refl; none_sent = λ g. refl; goes_on = λ s. refl }
 
-pub claimed-step : (tells : Type 0) (world : List Folder) (f : ℕ) (es new : List Event) (j : Job) → new ≡ es ++ event.Claim (role.Worker 0) j ∷ [] → Worked tells world f f es new
-claimed-step tells world f es new j is = worked-push tells world f f es new (event.Claim (role.Worker 0) j) is (claim-work j) (λ h. tt) (λ t. tt) (λ e. absurd (false≢true e)) (omega arith)
+-- a job may be claimed: none is in hand, nothing is owed, and it is the first
+pub record IsNextJob (es : List Event) (j : Job) : Type 0 where
+  pub legal : is_legal es ≡ true
+  pub free : IsFree es
+  pub none_owed : (replay es).owed ≡ []
+  pub first : first_job (replay es) (role.Worker 0) ≡ Some j
+
+pub claimed-step : (tells : Type 0) (world : List Folder) (f : ℕ) (es new : List Event) (j : Job) → IsNextJob es j → new ≡ es ++ event.Claim (role.Worker 0) j ∷ [] → Worked tells world f f es new
+claimed-step tells world f es new j may is =
+    worked-push tells world f f es new (event.Claim (role.Worker 0) j) is (claim-work j) (λ h. tt) (λ t. tt) (λ t. claim-in_turn world es j may.legal may.free may.none_owed may.first)
+    (λ e. absurd (false≢true e)) (omega arith)
 
 same_job-refl : (j : Job) → same_job j j ≡ true
 same_job-refl (job.Scan n t) = both (nat_eq n n) (same_task t t) (eq-eqb n n refl) (same_task-refl t)
@@ -239,9 +262,11 @@ pub complete-after : (s u : State) (n : ℕ) → Links s u n → IsComplete (bui
 complete-after s u n h complete =
     subst (λ (o : Options). IsComplete o (build_at u.builds n).table) (sym h.same_options) (subst (λ (tb : List (Question × Answer)). IsComplete (build_at s.builds n).options tb) (sym h.same_table) complete)
 
-pub linked-step : (tells : Type 0) (world : List Folder) (f : ℕ) (es : List Event) (mid new : Entries) (n : ℕ) → mid.events ≡ es ++ event.Claim (role.Worker 0) (job.Link n) ∷ [] → Linked mid new n → Worked tells world f f es new.events
-linked-step tells world f es mid new n is l =
-    worked-trans tells world f f f es mid.events new.events (claimed-step tells world f es mid.events (job.Link n) is) (settled-step tells world f mid new.events n l.outcome l.legal l.right l.added)
+pub linked-step : (tells : Type 0) (world : List Folder) (f : ℕ) (es : List Event) (mid new : Entries) (n : ℕ) → IsNextJob es (job.Link n) → mid.events ≡ es ++ event.Claim (role.Worker 0) (job.Link n) ∷ []
+    → Linked mid new n → Worked tells world f f es new.events
+linked-step tells world f es mid new n may is l =
+    worked-trans tells world f f f es mid.events new.events (claimed-step tells world f es mid.events (job.Link n) may is)
+    (settled-step tells world f mid new.events n l.outcome l.legal l.right (settle-in_turn world mid.events n l.outcome (doing-is es mid.events (event.Claim (role.Worker 0) (job.Link n)) is)) l.added)
 
 pub linked-by : (old new : Entries) (n : ℕ) (o : Outcome) → is_legal old.events ≡ true → IsLinked (build_at (replay old.events).builds n).options (build_at (replay old.events).builds n).table o
     → AddedWithin old new (event.Settle 0 n o) ⊎ AddedWithin old new (event.Settle 0 n outcomes.Memory) → Linked old new n

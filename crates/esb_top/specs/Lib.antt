@@ -3,5 +3,6 @@ pub mod Entries
 pub mod Work
 pub mod Output
 pub mod Input
+pub mod Turn
 pub mod Serving
 pub mod Session

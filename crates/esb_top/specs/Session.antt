@@ -1,18 +1,21 @@
 -- What a session on one thread promises.
-use Rattle.std.specs.Prelude.{◌≡◌, ℕ, ◌==◌, Bool, true, false, not, ◌||◌, List, [], ◌∷◌, ◌++◌, Result, Ok, Err}
-use Rattle.std.specs.List.{flat_map}
+use Rattle.std.specs.Prelude.{◌≡◌, ◌⊎◌, ℕ, nat_eq, ◌==◌, ◌<◌, ◌≤◌, Bool, true, false, not, ◌||◌, List, [], ◌∷◌, ◌++◌, Result, Ok, Err}
+use Rattle.std.specs.List.{flat_map, list_any}
 use Rattle.esb_base.specs.Faults.{Rose}
 use Rattle.esb_base.specs.declared.memory.Memory.{Memory}
 use Rattle.esb_wire.specs.Spelling.{frame}
-use Rattle.esb_wire.specs.Stream.{BeginsWithNone}
+use Rattle.esb_wire.specs.Stream.{BeginsWithNone, Counts}
+use Rattle.esb_wire.specs.Budget.{budget}
 use Rattle.esb_core.specs.declared.event.Event.{Event}
 use Rattle.esb_core.specs.declared.event.Event.TheVariants as events
 use Rattle.esb_core.specs.History.{is_legal}
 use Rattle.esb_sound.specs.Sound.{Sound}
 use Rattle.esb_sound.specs.Sent.{arrivals, sent}
+use Rattle.esb_sound.specs.Serial.{IsSerial, lapses}
 use Rattle.esb_sound.specs.Told.{AreTold, RoseBy, faults}
 use Rattle.esb_top.specs.declared.session.Ending.{Ending}
 use Rattle.esb_top.specs.declared.session.Ending.TheVariants as endings
+use Rattle.esb_top.specs.Input.{Begins}
 use Rattle.esb_top.specs.Output.{IsWritten}
 use Rattle.esb_top.specs.Serving.{Outside}
 use Rattle.esb_top.specs.Words.{greeting}
@@ -33,6 +36,10 @@ abbrev pub status_of : Result Ending Memory → Bool → Bool → ℕ
 status_of (Err refusal) whole refused = 5
 status_of (Ok ending) whole refused = status_if whole ending refused
 
+-- the statuses of a session
+abbrev pub is_known : ℕ → Bool
+is_known status = list_any (λ n. nat_eq n status) (0 ∷ 2 ∷ 3 ∷ 4 ∷ 5 ∷ 6 ∷ [])
+
 -- whether all that was owed was written
 abbrev pub is_whole : ℕ → Bool
 is_whole status = not ((status == 4) || (status == 5))
@@ -50,16 +57,26 @@ HasEnded journal = (before : List Event) × (journal ≡ before ++ events.EndOfI
 
 -- A session: the journal is one legal and right history, its answers are the host's own, the sink holds what the journal sent, and each status has its cause.
 pub record IsSession (host_tells sink_tells source_tells : Type 0) (was now : Outside) (status : ℕ) (journal : List Event) : Type 0 where
+  pub known : is_known status ≡ true
   pub legal : is_legal journal ≡ true
   -- no packet arrives after the end of the input
   pub ended : (status ≡ 5 → ⊥) → HasEnded journal
   pub sound : Sound journal
   pub from_host : host_tells → AreTold was.world journal
   pub counted : RoseBy (faults journal) was.host_faults now.host_faults
+  -- without a fault of the host and want of memory, it is the one history that these packets and folders have
+  pub serial : host_tells → (status ≡ 5 → ⊥) → lapses journal ≡ 0 → IsSerial was.world (arrivals journal) journal
   -- the length and the version text, and then what the journal sent: all of it, or a first part
   pub sends : sink_tells → IsWritten was.holds now.holds (greeting ++ sent journal) (is_whole status)
   pub write_fault : status ≡ 4 → Rose was.sink_faults now.sink_faults
   pub read_fault : status ≡ 3 → Rose was.source_faults now.source_faults
-  -- the packets that arrived are those of the input
+  -- the packets that arrived are the first of the input
+  pub stream : source_tells → Begins was.unread (flat_map frame (arrivals journal))
   pub malformed : status ≡ 2 → source_tells → IsCutAt was.unread journal
   pub whole_input : status ≡ 0 → source_tells → was.unread ≡ flat_map frame (arrivals journal)
+  -- the reads that gave a byte: 2^40 of them where the budget was spent, and fewer where the input ended or a read failed
+  pub reads : ℕ
+  pub read : Counts was.gave now.gave 0 reads
+  pub within_budget : reads ≤ budget
+  pub spent : status ≡ 6 → reads ≡ budget
+  pub unspent : (status ≡ 0) ⊎ (status ≡ 3) → reads < budget

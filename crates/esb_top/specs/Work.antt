@@ -13,15 +13,17 @@ use Rattle.esb_core.specs.declared.event.Event.TheVariants as events
 use Rattle.esb_core.specs.State.{State, build_at}
 use Rattle.esb_core.specs.Allowed.{has_task}
 use Rattle.esb_core.specs.History.{is_legal, replay}
+use Rattle.esb_sound.specs.Serial.{InTurn}
 use Rattle.esb_sound.specs.Sound.{IsLinked, Sound}
 use Rattle.esb_sound.specs.Sent.{arrivals, sent_packets}
 use Rattle.esb_sound.specs.Told.{AreTold, RoseBy, faults, told}
 use Rattle.esb_top.specs.Entries.{Entries, Added}
 
--- A piece of work: it is right where what came before is, its answers are the host's, nothing arrived or was sent, and the input didn't end.
+-- A piece of work: it is right where what came before is, its answers are the host's, each of its events comes in its turn, nothing arrived or was sent, and the input didn't end.
 pub record Worked (tells : Type 0) (world : List Folder) (faults_old faults_new : ℕ) (old new : List Event) : Type 0 where
   pub sound : Sound old → Sound new
   pub from_host : tells → AreTold world old → AreTold world new
+  pub in_turn : tells → InTurn world old → InTurn world new
   pub counted : (start : ℕ) → RoseBy (faults old) start faults_old → RoseBy (faults new) start faults_new
   pub arrived : arrivals new ≡ arrivals old
   pub sends : sent_packets new ≡ sent_packets old
@@ -59,5 +61,6 @@ pub record Linked (old new : Entries) (n : ℕ) : Type 0 where
 pub record Goes (tells : Type 0) (world : List Folder) (faults_old faults_new : ℕ) (old new : List Event) : Type 0 where
   pub sound : Sound old → Sound new
   pub from_host : tells → AreTold world old → AreTold world new
+  pub in_turn : tells → InTurn world old → InTurn world new
   pub counted : (start : ℕ) → RoseBy (faults old) start faults_old → RoseBy (faults new) start faults_new
   pub ended : (replay new).ended ≡ (replay old).ended

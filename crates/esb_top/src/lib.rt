@@ -10,3 +10,6 @@ mod work;
 
 pub use run::{Session, run_serial};
 pub use words::{BadWord, Words, read_words};
+
+#[cfg(test)]
+mod tests;

@@ -88,8 +88,8 @@ fn converse<S: Source, K: Sink, H: Host>(
     host: &mut H,
 ) -> Session
     ensures { IsSession H.tells K.tells S.tells
-        (record { world = H.world host.old; host_faults = H.faults host.old; holds = K.holds sink.old; sink_faults = K.faults sink.old; whole = true; unread = S.left source.old; source_faults = S.faults source.old })
-        (record { world = H.world host.new; host_faults = H.faults host.new; holds = K.holds sink.new; sink_faults = K.faults sink.new; whole = true; unread = S.left source.new; source_faults = S.faults source.new })
+        (record { world = H.world host.old; host_faults = H.faults host.old; holds = K.holds sink.old; sink_faults = K.faults sink.old; whole = true; unread = S.left source.old; source_faults = S.faults source.old; gave = S.gave source.old })
+        (record { world = H.world host.new; host_faults = H.faults host.new; holds = K.holds sink.new; sink_faults = K.faults sink.new; whole = true; unread = S.left source.new; source_faults = S.faults source.new; gave = S.gave source.new })
         result.status result.journal.events }
 {
     let Ok(mut history) = History::new(alloc) else {
@@ -127,8 +127,8 @@ pub fn run_serial<S: Source, K: Sink, H: Host>(
     ensures bad_line { (place : ℕ) → bad_place words.now ≡ Some place → (before so_far : Listed ℕ) → Wrote K.tells before (K.holds sink.old) so_far true
         → Wrote K.tells before (K.holds sink.new) (so_far ++ bad_word_line place) false }
     ensures session { bad_place words.now ≡ None → IsSession H.tells K.tells S.tells
-        (record { world = H.world host.old; host_faults = H.faults host.old; holds = K.holds sink.old; sink_faults = K.faults sink.old; whole = true; unread = S.left source.old; source_faults = S.faults source.old })
-        (record { world = H.world host.new; host_faults = H.faults host.new; holds = K.holds sink.new; sink_faults = K.faults sink.new; whole = true; unread = S.left source.new; source_faults = S.faults source.new })
+        (record { world = H.world host.old; host_faults = H.faults host.old; holds = K.holds sink.old; sink_faults = K.faults sink.old; whole = true; unread = S.left source.old; source_faults = S.faults source.old; gave = S.gave source.old })
+        (record { world = H.world host.new; host_faults = H.faults host.new; holds = K.holds sink.new; sink_faults = K.faults sink.new; whole = true; unread = S.left source.new; source_faults = S.faults source.new; gave = S.gave source.new })
         result.status result.journal.events }
 {
     match read_words(words) {

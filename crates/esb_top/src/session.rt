@@ -1,12 +1,16 @@
 //! A session on one thread.
-ghost use Rattle.std.specs.Prelude.{◌≡◌, ℕ, ◌≤◌, ◌++◌, List as Listed, None, false, IfOk, IfSome, OnErr};
+ghost use Rattle.std.specs.Prelude.{◌≡◌, ℕ, ◌≤◌, ◌++◌, List as Listed, [], None, Some, false, IfOk, IfSome, OnErr};
 ghost use Rattle.esb_base.specs.Faults.{Rose};
+ghost use Rattle.esb_base.specs.World.{Folder};
+ghost use Rattle.esb_core.specs.Allowed.{first_job};
 ghost use Rattle.esb_core.specs.History.{replay};
+ghost use Rattle.esb_sound.specs.Serial.{InTurn};
 ghost use Rattle.esb_sound.specs.Sound.{Sound};
-ghost use Rattle.esb_sound.specs.Sent.{sent};
+ghost use Rattle.esb_sound.specs.Sent.{arrivals, sent};
 ghost use Rattle.esb_top.specs.Output.{FailedSince, PopsOne, Wrote};
-ghost use Rattle.esb_top.specs.Input.{ArrivesOne, EndsBy, IsRead};
+ghost use Rattle.esb_top.specs.Input.{ArrivesOne, EndsBy, HasRead, IsRead};
 ghost use Rattle.esb_top.specs.Serving.{Ends, Refused};
+ghost use Rattle.esb_top.specs.Turn.{IsAtRest, IsFree};
 ghost use Rattle.esb_top.specs.Work.{Goes, Worked};
 
 use crate::history::History;
@@ -24,7 +28,11 @@ fn send_first<K: Sink>(
     sink: &mut K,
     whole: &mut bool,
 ) -> Result<bool, Memory>
+    requires free { IsFree history.old.events }
     ensures pops { PopsOne history.old.events history.new.events }
+    ensures in_turn { (world : Listed Folder) → InTurn world history.old.events → InTurn world history.new.events }
+    ensures free { IsFree history.new.events }
+    ensures none_owed { IfOk result (λ some. some ≡ false → (replay history.new.events).owed ≡ []) }
     ensures room { history.old.promised ≤ history.new.promised }
     ensures wrote { IfOk result (λ some. (before front : Listed ℕ) → Wrote K.tells before (K.holds sink.old) (front ++ sent history.old.events) whole.old
         → Wrote K.tells before (K.holds sink.new) (front ++ sent history.new.events) whole.new) }
@@ -50,10 +58,14 @@ fn work_first<H: Host>(
     refused: &mut bool,
 ) -> Result<bool, Memory>
     requires sound { Sound history.old.events }
+    requires free { IsFree history.old.events }
+    requires none_owed { (replay history.old.events).owed ≡ [] }
     ensures worked { Worked H.tells (H.world host.old) (H.faults host.old) (H.faults host.new) history.old.events history.new.events }
     ensures room { history.old.promised ≤ history.new.promised }
     ensures world { H.tells → H.world host.new ≡ H.world host.old }
     ensures never_falls { H.faults host.old ≤ H.faults host.new }
+    ensures free { IsFree history.new.events }
+    ensures rests { IfOk result (λ some. some ≡ false → IsAtRest history.new.events) }
 {
     let Some(job) = history.job()? else {
         return Ok(false);
@@ -80,6 +92,7 @@ fn read_next<S: Source>(
 ) -> Result<Option<Ending>, Memory>
     requires going { reader.old.stopped ≡ None }
     requires open { (replay history.old.events).ended ≡ false }
+    requires rests { IsAtRest history.old.events }
     ensures arrives { ArrivesOne history.old.events history.new.events }
     ensures going { IfOk result (λ ending. ending ≡ None → reader.new.stopped ≡ None) }
     ensures room { history.old.promised ≤ history.new.promised }
@@ -87,8 +100,13 @@ fn read_next<S: Source>(
     ensures stream { IfOk result (λ ending. (whole : Listed ℕ) → IsRead S.tells whole history.old.events (reader.old.held ++ S.left source.old)
         → IsRead S.tells whole history.new.events (reader.new.held ++ S.left source.new)) }
     ensures part { OnErr result (history.new.events ≡ history.old.events) }
+    ensures in_turn { (world : Listed Folder) → InTurn world history.old.events → InTurn world history.new.events }
+    ensures free { IsFree history.new.events }
+    ensures rests { IfOk result (λ ending. IfSome ending (λ e. IsAtRest history.new.events)) }
+    ensures read { HasRead (S.gave source.old) (S.gave source.new) reader.old.reads reader.new.reads }
     ensures ends { IfOk result (λ ending. IfSome ending (λ e. EndsBy S.tells (Rose (S.faults source.old) (S.faults source.new)) (reader.new.held ++ S.left source.new) reader.new.reads e)) }
 {
+    history.is_legal();
     match reader.next_packet(source) {
         Next::Packet(packet) => {
             history.arrive(packet)?;
@@ -117,6 +135,7 @@ fn turn<S: Source, K: Sink, H: Host>(
     requires going { reader.old.stopped ≡ None }
     requires unended { (replay history.old.events).ended ≡ false }
     requires sound { Sound history.old.events }
+    requires free { IsFree history.old.events }
     ensures goes { Goes H.tells (H.world host.old) (H.faults host.old) (H.faults host.new) history.old.events history.new.events }
     ensures going { IfOk result (λ ending. ending ≡ None → reader.new.stopped ≡ None) }
     ensures room { history.old.promised ≤ history.new.promised }
@@ -128,6 +147,10 @@ fn turn<S: Source, K: Sink, H: Host>(
     ensures failed { (start : ℕ) → start ≤ K.faults sink.old → FailedSince start (K.faults sink.old) whole.old → FailedSince start (K.faults sink.new) whole.new }
     ensures sink_never_falls { K.faults sink.old ≤ K.faults sink.new }
     ensures source_never_falls { S.faults source.old ≤ S.faults source.new }
+    ensures free { IsFree history.new.events }
+    ensures rests { IfOk result (λ ending. IfSome ending (λ e. IsAtRest history.new.events)) }
+    ensures read { HasRead (S.gave source.old) (S.gave source.new) reader.old.reads reader.new.reads }
+    ensures arrived { OnErr result (arrivals history.new.events ≡ arrivals history.old.events) }
     ensures stream { IfOk result (λ ending. (all : Listed ℕ) → IsRead S.tells all history.old.events (reader.old.held ++ S.left source.old)
         → IsRead S.tells all history.new.events (reader.new.held ++ S.left source.new)) }
     ensures ends { IfOk result (λ ending. IfSome ending (λ e. EndsBy S.tells (Rose (S.faults source.old) (S.faults source.new)) (reader.new.held ++ S.left source.new) reader.new.reads e)) }
@@ -153,13 +176,14 @@ pub(crate) fn serve<S: Source, K: Sink, H: Host>(
 ) -> Result<Ending, Memory>
     requires unended { (replay history.old.events).ended ≡ false }
     requires sound { Sound history.old.events }
+    requires free { IsFree history.old.events }
     ensures ok { IfOk result (λ ending. Ends H.tells K.tells S.tells
-        (record { world = H.world host.old; host_faults = H.faults host.old; holds = K.holds sink.old; sink_faults = K.faults sink.old; whole = whole.old; unread = S.left source.old; source_faults = S.faults source.old })
-        (record { world = H.world host.new; host_faults = H.faults host.new; holds = K.holds sink.new; sink_faults = K.faults sink.new; whole = whole.new; unread = S.left source.new; source_faults = S.faults source.new })
+        (record { world = H.world host.old; host_faults = H.faults host.old; holds = K.holds sink.old; sink_faults = K.faults sink.old; whole = whole.old; unread = S.left source.old; source_faults = S.faults source.old; gave = S.gave source.old })
+        (record { world = H.world host.new; host_faults = H.faults host.new; holds = K.holds sink.new; sink_faults = K.faults sink.new; whole = whole.new; unread = S.left source.new; source_faults = S.faults source.new; gave = S.gave source.new })
         history.old history.new ending) }
-    ensures err { OnErr result (Refused H.tells K.tells
-        (record { world = H.world host.old; host_faults = H.faults host.old; holds = K.holds sink.old; sink_faults = K.faults sink.old; whole = whole.old; unread = S.left source.old; source_faults = S.faults source.old })
-        (record { world = H.world host.new; host_faults = H.faults host.new; holds = K.holds sink.new; sink_faults = K.faults sink.new; whole = whole.new; unread = S.left source.new; source_faults = S.faults source.new })
+    ensures err { OnErr result (Refused H.tells K.tells S.tells
+        (record { world = H.world host.old; host_faults = H.faults host.old; holds = K.holds sink.old; sink_faults = K.faults sink.old; whole = whole.old; unread = S.left source.old; source_faults = S.faults source.old; gave = S.gave source.old })
+        (record { world = H.world host.new; host_faults = H.faults host.new; holds = K.holds sink.new; sink_faults = K.faults sink.new; whole = whole.new; unread = S.left source.new; source_faults = S.faults source.new; gave = S.gave source.new })
         history.old history.new) }
 {
     let mut reader = Reader::new(alloc);

@@ -9,9 +9,11 @@ ghost use Rattle.esb_core.specs.State.{build_at};
 ghost use Rattle.esb_scan.specs.declared.run.Run.TheVariants as runs;
 ghost use Rattle.esb_scan.specs.Run.{run};
 ghost use Rattle.esb_scan.specs.Complete.{IsComplete};
+ghost use Rattle.esb_sound.specs.Serial.{doing};
 ghost use Rattle.esb_sound.specs.Sound.{IsLinked, Sound};
 ghost use Rattle.esb_sound.specs.Told.{told};
 ghost use Rattle.esb_top.specs.Entries.{Kept};
+ghost use Rattle.esb_top.specs.Turn.{IsFree};
 ghost use Rattle.esb_top.specs.Work.{Answered, AtLink, AtWork, Linked, Worked};
 
 use crate::history::History;
@@ -78,8 +80,10 @@ fn product_of<H: Host>(
 ) -> Result<Product, Memory>
     requires at { AtWork (replay history.old.events) build task.now }
     requires options { options.now ≡ (build_at (replay history.old.events).builds build).options }
+    requires in_hand { doing history.old.events ≡ Some (Job.Scan build task.now) }
     ensures product { IfOk result (λ product. run options.now (build_at (replay history.new.events).builds build).table task.now ≡ runs.Done product) }
     ensures options { (build_at (replay history.new.events).builds build).options ≡ options.now }
+    ensures in_hand { doing history.new.events ≡ Some (Job.Scan build task.now) }
     ensures at { AtWork (replay history.new.events) build task.now }
     ensures worked { Worked H.tells (H.world host.old) (H.faults host.old) (H.faults host.new) history.old.events history.new.events }
     ensures room { history.old.promised ≤ history.new.promised }
@@ -109,7 +113,9 @@ fn try_scan<H: Host>(
     task: &Task,
 ) -> Result<(), Memory>
     requires at { AtWork (replay history.old.events) build task.now }
+    requires in_hand { doing history.old.events ≡ Some (Job.Scan build task.now) }
     requires room { 0 < history.old.promised }
+    ensures free { OnOk result (IsFree history.new.events) }
     ensures at { OnErr result (AtWork (replay history.new.events) build task.now) }
     ensures worked { Worked H.tells (H.world host.old) (H.faults host.old) (H.faults host.new) history.old.events history.new.events }
     ensures room { OnErr result (history.old.promised ≤ history.new.promised) }
@@ -150,7 +156,9 @@ fn scan<H: Host>(
     task: &Task,
 ) -> bool
     requires at { AtWork (replay history.old.events) build task.now }
+    requires in_hand { doing history.old.events ≡ Some (Job.Scan build task.now) }
     requires room { 0 < history.old.promised }
+    ensures free { IsFree history.new.events }
     ensures worked { Worked H.tells (H.world host.old) (H.faults host.old) (H.faults host.new) history.old.events history.new.events }
     ensures room { history.old.promised ≤ history.new.promised + 1 }
     ensures world { H.tells → H.world host.new ≡ H.world host.old }
@@ -212,6 +220,9 @@ pub(crate) fn do_job<H: Host>(
 ) -> Result<bool, Memory>
     requires first { first_job (replay history.old.events) (Role.Worker 0) ≡ Some job.now }
     requires sound { Sound history.old.events }
+    requires free { IsFree history.old.events }
+    requires none_owed { (replay history.old.events).owed ≡ [] }
+    ensures free { IsFree history.new.events }
     ensures worked { Worked H.tells (H.world host.old) (H.faults host.old) (H.faults host.new) history.old.events history.new.events }
     ensures room { history.old.promised ≤ history.new.promised }
     ensures world { H.tells → H.world host.new ≡ H.world host.old }

@@ -1,4 +1,9 @@
-use Rattle.std.proofs.Common.{inr}
+use Rattle.std.proofs.Common.{◌≡◌, List, ◌++◌, ◌∷◌, [], inr, sym, subst, ◌∙◌}
+use Rattle.esb_core.specs.declared.event.Event.{Event}
+use Rattle.esb_core.specs.declared.event.Event.TheVariants as events
+use Rattle.esb_sound.specs.Serial.{InTurn, IsInTurn}
+use Rattle.esb_top.proofs.Histories.{each-push}
+use Rattle.esb_top.proofs.InOrder.{arrive-in_turn, doing-is}
 use Rattle.esb_core.specs.History.{replay}
 use Rattle.esb_top.proofs.Proper.{arrival-is_allowed}
 use Rattle.esb_top.proofs.session.read_next.Goals as goal
@@ -10,3 +15,12 @@ arrive-requires g c =
 
 pub returns-in_ok-arrive-in-Packet-clause-arrives : goal.returns-in_ok-arrive-in-Packet-clause-arrives
 returns-in_ok-arrive-in-Packet-clause-arrives g c = inr (c.in-Packet.packet, c.in_ok-arrive-in-Packet.ensures.ok.events)
+
+pub returns-in_ok-arrive-in-Packet-clause-in_turn : goal.returns-in_ok-arrive-in-Packet-clause-in_turn
+returns-in_ok-arrive-in-Packet-clause-in_turn g c = λ world h.
+    subst (λ (es : List Event). InTurn world es) (sym c.in_ok-arrive-in-Packet.ensures.ok.events)
+    (each-push (IsInTurn world) c.args.history.now.events (events.Arrive c.in-Packet.packet) h (arrive-in_turn world c.args.history.now.events c.in-Packet.packet c.is_legal.ensures c.requires.rests))
+
+pub returns-in_ok-arrive-in-Packet-clause-free : goal.returns-in_ok-arrive-in-Packet-clause-free
+returns-in_ok-arrive-in-Packet-clause-free g c =
+    doing-is c.args.history.now.events c.arrive.new.self.events (events.Arrive c.in-Packet.packet) c.in_ok-arrive-in-Packet.ensures.ok.events ∙ c.requires.rests.free

@@ -1,7 +1,11 @@
 use Rattle.esb_core.specs.History.{replay}
 use Rattle.esb_core.specs.declared.event.Job.TheVariants as job
 use Rattle.esb_top.proofs.Histories.{worked-trans}
-use Rattle.esb_top.proofs.Working.{at-link, at-scan, claimed-step, complete-after, link-job, linked-step, may-claim}
+use Rattle.std.proofs.Common.{◌∙◌}
+use Rattle.esb_core.specs.declared.event.Event.TheVariants as event
+use Rattle.esb_core.specs.declared.event.Role.TheVariants as role
+use Rattle.esb_top.proofs.InOrder.{doing-is}
+use Rattle.esb_top.proofs.Working.{IsNextJob, at-link, at-scan, claimed-step, complete-after, link-job, linked-step, may-claim}
 use Rattle.esb_top.proofs.work.do_job.Goals as goal
 
 pub claim-requires : goal.claim-requires
@@ -25,8 +29,16 @@ link_build-requires-clause-complete g c =
 pub returns-in-Scan-clause-worked : goal.returns-in-Scan-clause-worked
 returns-in-Scan-clause-worked g c =
     worked-trans g.H.Host.tells (g.H.Host.world c.args.host.now) (g.H.Host.faults c.args.host.now) (g.H.Host.faults c.args.host.now) (g.H.Host.faults c.scan.new.host) c.args.history.now.events c.claim.new.self.events c.scan.new.history.events
-    (claimed-step g.H.Host.tells (g.H.Host.world c.args.host.now) (g.H.Host.faults c.args.host.now) c.args.history.now.events c.claim.new.self.events c.args.job.now c.in_ok-claim.ensures.ok.events) c.scan.ensures.worked
+    (claimed-step g.H.Host.tells (g.H.Host.world c.args.host.now) (g.H.Host.faults c.args.host.now) c.args.history.now.events c.claim.new.self.events c.args.job.now
+    (record { legal = c.is_legal.ensures; free = c.requires.free; none_owed = c.requires.none_owed; first = c.requires.first }) c.in_ok-claim.ensures.ok.events) c.scan.ensures.worked
 
 pub returns-in-Link-clause-worked : goal.returns-in-Link-clause-worked
 returns-in-Link-clause-worked g c =
-    linked-step g.H.Host.tells (g.H.Host.world c.args.host.now) (g.H.Host.faults c.args.host.now) c.args.history.now.events c.claim.new.self c.link_build.new.history c.in-Link.build (rw c.in-Link.is at c.in_ok-claim.ensures.ok.events) c.link_build.ensures
+    linked-step g.H.Host.tells (g.H.Host.world c.args.host.now) (g.H.Host.faults c.args.host.now) c.args.history.now.events c.claim.new.self c.link_build.new.history c.in-Link.build
+    (record { legal = c.is_legal.ensures; free = c.requires.free; none_owed = c.requires.none_owed; first = rw c.in-Link.is at c.requires.first }) (rw c.in-Link.is at c.in_ok-claim.ensures.ok.events) c.link_build.ensures
+
+pub scan-requires-clause-in_hand : goal.scan-requires-clause-in_hand
+scan-requires-clause-in_hand g c = doing-is c.args.history.now.events c.claim.new.self.events (event.Claim (role.Worker 0) (job.Scan c.in-Scan.build c.in-Scan.task)) (rw c.in-Scan.is at c.in_ok-claim.ensures.ok.events)
+
+pub returns-in-Link-clause-free : goal.returns-in-Link-clause-free
+returns-in-Link-clause-free g c = doing-is c.claim.new.self.events c.link_build.new.history.events (event.Settle 0 c.in-Link.build c.link_build.ensures.outcome) c.link_build.ensures.added

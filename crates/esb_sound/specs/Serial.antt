@@ -1,0 +1,128 @@
+-- The one history that a world and the packets of an input give on one thread: what is owed is sent first, then the first open job is claimed and done whole, and else the next packet is read.
+use Rattle.std.specs.Prelude.{◌≡◌, ℕ, Bool, true, false, List, [], ◌∷◌, ◌++◌, length, fold, count_by, slice_get, Option, Some, None, Result, Ok, Err}
+use Rattle.esb_base.specs.World.{Folder}
+use Rattle.esb_wire.specs.declared.value.Packet.{Packet}
+use Rattle.esb_ask.specs.declared.task.Task.{Task}
+use Rattle.esb_ask.specs.declared.message.Message.{Message}
+use Rattle.esb_ask.specs.declared.outcome.OutFile.{OutFile}
+use Rattle.esb_ask.specs.declared.outcome.Outcome.{Outcome}
+use Rattle.esb_ask.specs.declared.outcome.Outcome.TheVariants as outcomes
+use Rattle.esb_core.specs.declared.out.Out.{Out}
+use Rattle.esb_core.specs.declared.event.Job.{Job}
+use Rattle.esb_core.specs.declared.event.Job.TheVariants as jobs
+use Rattle.esb_core.specs.declared.event.Role.TheVariants as roles
+use Rattle.esb_core.specs.declared.event.Event.{Event}
+use Rattle.esb_core.specs.declared.event.Event.TheVariants as events
+use Rattle.esb_core.specs.Allowed.{first_job}
+use Rattle.esb_core.specs.History.{build, owed, replay, table}
+use Rattle.esb_scan.specs.declared.run.Run.{Run}
+use Rattle.esb_scan.specs.declared.run.Run.TheVariants as runs
+use Rattle.esb_scan.specs.Run.{run}
+use Rattle.esb_link.specs.SerialLink.{serial_link}
+use Rattle.esb_sound.specs.Each.{Each}
+use Rattle.esb_sound.specs.Sent.{arrivals}
+use Rattle.esb_sound.specs.Told.{is_fault, told}
+
+-- ---- the job in hand
+
+abbrev pub doing_after : Option Job → Event → Option Job
+doing_after job (events.Claim role claimed) = Some claimed
+doing_after job (events.Deliver worker n task product) = None
+doing_after job (events.Settle worker n outcome) = None
+doing_after job (events.Record worker n question answer) = job
+doing_after job (events.Arrive packet) = job
+doing_after job events.EndOfInput = job
+doing_after job events.Pop = job
+
+-- the job that was claimed and is not yet done
+abbrev pub doing : List Event → Option Job
+doing list = fold doing_after None list
+
+-- ---- what comes next
+
+-- a task asks the world, or is done
+abbrev pub scan_step : List Folder → ℕ → Task → Run → Option Event
+scan_step world n task (runs.Asks question) = Some (events.Record 0 n question (told world n question))
+scan_step world n task (runs.Done product) = Some (events.Deliver 0 n task product)
+scan_step world n task runs.Memory = None
+
+abbrev pub linked : Result (List OutFile) (List Message) → Outcome
+linked (Ok files) = outcomes.Files files
+linked (Err messages) = outcomes.Errors messages
+
+-- a job goes on, over the build's answers so far
+abbrev pub work_step : List Folder → List Event → Job → Option Event
+work_step world before (jobs.Scan n task) = scan_step world n task (run (build before n).options (table before n) task)
+work_step world before (jobs.Link n) = Some (events.Settle 0 n (linked (serial_link (build before n).options (table before n))))
+
+-- the next packet, or the end of the input
+abbrev pub input_step : Option Packet → Event
+input_step (Some packet) = events.Arrive packet
+input_step None = events.EndOfInput
+
+abbrev pub claim_or : Option Job → Event → Event
+claim_or (Some job) otherwise = events.Claim (roles.Worker 0) job
+claim_or None otherwise = otherwise
+
+abbrev pub pop_or : List Out → Event → Event
+pop_or (first ∷ rest) otherwise = events.Pop
+pop_or [] otherwise = otherwise
+
+-- what comes next where no job is in hand
+abbrev pub free_step : List Packet → List Event → Event
+free_step packets before = pop_or (owed before) (claim_or (first_job (replay before) (roles.Worker 0)) (input_step (slice_get packets (length (arrivals before)))))
+
+abbrev pub step_by : List Folder → List Packet → List Event → Option Job → Option Event
+step_by world packets before (Some job) = work_step world before job
+step_by world packets before None = Some (free_step packets before)
+
+-- the event that comes after these
+abbrev pub next : List Folder → List Packet → List Event → Option Event
+next world packets before = step_by world packets before (doing before)
+
+-- ---- the history
+
+abbrev pub is_end : Event → Bool
+is_end events.EndOfInput = true
+is_end e = false
+
+-- an event before the end
+abbrev pub Follows : List Folder → List Packet → List Event → Event → Type 0
+Follows world packets before e = (next world packets before ≡ Some e) × (is_end e ≡ false)
+
+-- Each event is the one that comes next, up to the end of the input, which is the last.
+pub record IsSerial (world : List Folder) (packets : List Packet) (journal : List Event) : Type 0 where
+  pub before : List Event
+  pub steps : Each (Follows world packets) before
+  pub last : next world packets before ≡ Some events.EndOfInput
+  pub whole : journal ≡ before ++ events.EndOfInput ∷ []
+
+-- ---- what the history of a world doesn't have
+
+abbrev pub is_refusal : Outcome → Bool
+is_refusal outcomes.Memory = true
+is_refusal outcome = false
+
+-- a fault of the host, or a build that was settled for want of memory
+abbrev pub is_lapse : Event → Bool
+is_lapse (events.Record worker n question answer) = is_fault answer
+is_lapse (events.Settle worker n outcome) = is_refusal outcome
+is_lapse e = false
+
+abbrev pub lapses : List Event → ℕ
+lapses list = count_by is_lapse list
+
+-- ---- histories in which there may be lapses
+
+-- the packet that arrives is the next of these
+abbrev pub Arrives : List Packet → List Event → Event → Type 0
+Arrives packets before (events.Arrive packet) = slice_get packets (length (arrivals before)) ≡ Some packet
+Arrives packets before e = Unit {0}
+
+-- an event that comes in its turn, unless it is a lapse, and doesn't end the input
+pub record IsInTurn (world : List Folder) (before : List Event) (e : Event) : Type 0 where
+  pub goes_on : is_end e ≡ false
+  pub follows : is_lapse e ≡ false → (packets : List Packet) → Arrives packets before e → next world packets before ≡ Some e
+
+abbrev pub InTurn : List Folder → List Event → Type 0
+InTurn world list = Each (IsInTurn world) list
