@@ -1,7 +1,13 @@
+pub mod Accounts
+pub mod Begins
 pub mod Claims
+pub mod Ends
+pub mod Firsts
 pub mod Jobs
 pub mod Keeping
 pub mod Laws
+pub mod Legal
 pub mod Pushes
 pub mod Readings
 pub mod Replays
+pub mod Shows

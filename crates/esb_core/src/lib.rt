@@ -1,6 +1,7 @@
 //! The machine of the service: events in, and what they tell.
 #![tactic(auto)]
 
+mod always;
 mod build;
 mod event;
 mod machine;
@@ -10,6 +11,10 @@ mod replies;
 mod tables;
 mod view;
 
+pub use always::{
+    answers_stay, builds_stay, machines_show_their_history, outcomes_stay, replies_are_one,
+    settled_tables_stay,
+};
 pub use event::{Claimed, Event, Job, Journal, Role, Told};
 pub use machine::Machine;
 pub use out::{Body, Out};
