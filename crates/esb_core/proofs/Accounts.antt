@@ -17,7 +17,7 @@ use Rattle.esb_core.specs.Steps.{most_builds}
 use Rattle.esb_core.specs.Allowed.{allowed}
 use Rattle.esb_core.specs.History.{Begun, begun_at, begun_by, builds, build, no_begun, settled_by, or_later, outcome, refused, closes, owes, all_owed, is_legal, replay}
 use Rattle.esb_core.specs.Laws.{is_result, results_of, reply_for, is_refusal, is_request, waits_for}
-use Rattle.esb_core.proofs.Pushes.{builds-push, or_later-None, outcome-push, gathered-push}
+use Rattle.esb_core.proofs.Pushes.{builds-push, or_later-None, outcome-push, gathered-push, count-push}
 use Rattle.esb_core.proofs.Ends.{settled-begun}
 use Rattle.esb_core.proofs.Begins.{build-stays}
 use Rattle.esb_core.proofs.Legal.{each, each_legal}
@@ -97,9 +97,6 @@ pub one-result : (events : List Event) (n : ℕ) → is_legal events ≡ true �
 one-result events n legal = each_legal (λ es. results_of es n ≡ reply_for (build es n).waiter n (outcome es n)) refl (one-result-step n) events legal
 
 -- ---- each request is accounted for
-
-count-push : {X : Type 0} (p : X → Bool) (xs : List X) (x : X) → count_by p (xs ++ x ∷ []) ≡ count_by p xs + cond (p x) 1 0
-count-push p xs x = sum_by-append (λ y. cond (p y) 1 0) xs (x ∷ []) ∙ omega arith
 
 module _ (ids : ℕ → Bool) where
   asks-one : (bs : List Begun) (id : ℕ) (t : Bool) (a : Asked Command) → count_by (waits_for ids) (cond t (begun_by bs id a) bs) + count_by (is_refusal ids) (cond t (refused (length bs) id a) [])

@@ -141,7 +141,7 @@ kept-stays es fs n q a e =
 
 -- ---- settled builds
 
-answers-append : (es fs : List Event) (n : ℕ) → answers (es ++ fs) n ≡ added (outcome es n) (answers es n) (answers fs n)
+pub answers-append : (es fs : List Event) (n : ℕ) → answers (es ++ fs) n ≡ added (outcome es n) (answers es n) (answers fs n)
 answers-append [] fs n = refl
 answers-append (d ∷ es) fs n = ap (λ xs. answers_with n d xs) (answers-append es fs n) ∙ added-past n d (outcome es n) (answers es n) (answers fs n)
 

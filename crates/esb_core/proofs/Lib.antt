@@ -3,11 +3,14 @@ pub mod Begins
 pub mod Claims
 pub mod Ends
 pub mod Firsts
+pub mod Grows
 pub mod Jobs
 pub mod Keeping
 pub mod Laws
 pub mod Legal
+pub mod Once
 pub mod Pushes
 pub mod Readings
 pub mod Replays
 pub mod Shows
+pub mod Tells

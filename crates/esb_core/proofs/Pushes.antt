@@ -1,6 +1,6 @@
 -- What the questions about a list answer once one more event came.
 use Rattle.std.proofs.Common.{◌≡◌, ℕ, ◌+◌, Bool, true, false, cond, List, [], ◌∷◌, ◌++◌, Option, None, Some, refl, sym, ap, ◌∙◌, append_assoc, arith, nat_eq}
-use Rattle.std.specs.List.{fold}
+use Rattle.std.specs.List.{fold, count_by}
 use Rattle.std.proofs.lemmas.List.Sums.{fold-append, sum_by-append}
 use Rattle.esb_ask.specs.declared.question.Question.{Question}
 use Rattle.esb_ask.specs.declared.answer.Answer.{Answer}
@@ -81,6 +81,9 @@ gathered_from-push f before (d ∷ es) e =
 
 pub gathered-push : {X : Type 0} (f : List Event → Event → List X) (es : List Event) (e : Event) → gathered f (es ++ e ∷ []) ≡ gathered f es ++ f es e
 gathered-push f es e = gathered_from-push f [] es e
+
+pub count-push : {X : Type 0} (p : X → Bool) (xs : List X) (x : X) → count_by p (xs ++ x ∷ []) ≡ count_by p xs + cond (p x) 1 0
+count-push p xs x = sum_by-append (λ y. cond (p y) 1 0) xs (x ∷ []) ∙ omega arith
 
 abbrev pub pop_of : Event → ℕ
 pop_of e = cond (is_pop e) 1 0

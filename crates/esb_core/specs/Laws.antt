@@ -1,20 +1,25 @@
 -- What the questions about a list come to, in terms of the events that decide them.
-use Rattle.std.specs.Prelude.{◌≡◌, ℕ, ◌≤◌, Bool, true, false, ◌&&◌, nat_eq, List, [], ◌∷◌, ◌++◌, length, filter, Option, None, Some, Ok}
+use Rattle.std.specs.Prelude.{◌≡◌, ℕ, ◌<◌, ◌≤◌, Bool, true, false, ◌&&◌, nat_eq, List, [], ◌∷◌, ◌++◌, length, filter, codes, slice_get, Option, None, Some, IsSome, Ok}
 use Rattle.std.specs.List.{list_any}
 use Rattle.esb_wire.specs.declared.value.Packet.{Packet}
 use Rattle.esb_flags.specs.declared.command.Command.TheVariants as command
 use Rattle.esb_flags.specs.Command.{asked}
 use Rattle.esb_ask.specs.declared.question.Question.{Question}
 use Rattle.esb_ask.specs.declared.answer.Answer.{Answer}
+use Rattle.esb_ask.specs.declared.task.Task.{Task}
 use Rattle.esb_ask.specs.declared.outcome.Outcome.{Outcome}
-use Rattle.esb_ask.specs.Table.{same_question}
+use Rattle.esb_ask.specs.Table.{same_question, kept_answer}
+use Rattle.esb_ask.specs.Tasks.{same_task}
 use Rattle.esb_core.specs.declared.out.Out.{Out}
 use Rattle.esb_core.specs.declared.out.Out.TheVariants as out
 use Rattle.esb_core.specs.declared.out.Body.TheVariants as body
+use Rattle.esb_core.specs.declared.event.Job.TheVariants as job
 use Rattle.esb_core.specs.declared.event.Event.{Event}
 use Rattle.esb_core.specs.declared.event.Event.TheVariants as event
+use Rattle.esb_core.specs.declared.event.Told.{Told}
+use Rattle.esb_core.specs.declared.event.Told.TheVariants as told
 use Rattle.esb_core.specs.State.{State, build_at}
-use Rattle.esb_core.specs.Steps.{most_builds}
+use Rattle.esb_core.specs.Steps.{most_builds, told_pop, told_stale}
 use Rattle.esb_core.specs.History.{Begun, builds, build, outcome, table, all_owed, owed}
 
 -- ---- which event decides
@@ -45,6 +50,21 @@ pub record IsAnsweredBy (events : List Event) (n : ℕ) (q : Question) (a : Answ
   pub at : events ≡ before ++ event.Record worker n q a ∷ more
   pub earliest : list_any (answers_it n q) before ≡ false
   pub unsettled : list_any (settles n) before ≡ false
+
+-- whether an event gives this task of the build to a worker, and whether it gives the link
+abbrev pub claims_task : ℕ → Task → Event → Bool
+claims_task n t (event.Claim r (job.Scan m u)) = nat_eq m n && same_task t u
+claims_task n t (event.Claim r (job.Link m)) = false
+claims_task n t e = false
+
+abbrev pub claims_link : ℕ → Event → Bool
+claims_link n (event.Claim r (job.Scan m u)) = false
+claims_link n (event.Claim r (job.Link m)) = nat_eq m n
+claims_link n e = false
+
+-- whether a pair has the answer to this question
+abbrev pub is_about : Question → Question × Answer → Bool
+is_about q pair = same_question q pair.0
 
 -- the request that asks for the build came after as many others had begun as its number says
 pub record IsBegunBy (events : List Event) (n : ℕ) : Type 0 where
@@ -80,6 +100,10 @@ is_refusal ids (out.Reply id body.Empty) = ids id
 is_refusal ids (out.Reply id (body.Error text)) = ids id
 is_refusal ids (out.Reply id (body.Result m)) = false
 
+-- why a request that asks for one build too many is refused
+abbrev pub no_room : List ℕ
+no_room = codes "Too many builds"
+
 -- whether an event is a request with one of these ids
 abbrev pub is_request : (ℕ → Bool) → Event → Bool
 is_request ids (event.Arrive packet) = packet.request && ids packet.id
@@ -106,3 +130,21 @@ pub record ShowsHistory (state : State) (events : List Event) : Type 0 where
   pub tables : (n : ℕ) → (build_at state.builds n).table ≡ table events n
   pub outcomes : (n : ℕ) → (build_at state.builds n).outcome ≡ outcome events n
   pub ended : state.ended ≡ list_any ends_input events
+
+-- what the machine tells of an answer: the one that is kept to its question, unless the build is settled
+abbrev pub tells_record : List (Question × Answer) → Question → Answer → Option Outcome → Told
+tells_record table question answer None = told.Kept (kept_answer table question answer)
+tells_record table question answer (Some o) = told.Stale
+
+-- what the machine tells of an event that comes after these
+abbrev pub tells : List Event → Event → Told
+tells before (event.Record worker n question answer) = tells_record (table before n) question answer (outcome before n)
+tells before (event.Deliver worker n t p) = told_stale (outcome before n)
+tells before (event.Settle worker n o) = told_stale (outcome before n)
+tells before event.Pop = told_pop (slice_get (owed before) 0)
+tells before e = told.Done
+
+-- the input has ended, and each build is settled
+pub record IsOver (events : List Event) : Type 0 where
+  pub input : list_any ends_input events ≡ true
+  pub settled : (n : ℕ) → n < length (builds events) → IsSome (outcome events n)

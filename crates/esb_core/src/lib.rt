@@ -12,8 +12,8 @@ mod tables;
 mod view;
 
 pub use always::{
-    answers_stay, builds_stay, machines_show_their_history, outcomes_stay, replies_are_one,
-    settled_tables_stay,
+    answers_stay, builds_stay, events_that_may_come, machines_show_their_history, outcomes_stay,
+    replies_are_one, settled_tables_stay, told_is_the_history, work_is_claimed_once,
 };
 pub use event::{Claimed, Event, Job, Journal, Role, Told};
 pub use machine::Machine;
