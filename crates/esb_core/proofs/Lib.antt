@@ -4,6 +4,7 @@ pub mod Claims
 pub mod Ends
 pub mod Firsts
 pub mod Grows
+pub mod Held
 pub mod Jobs
 pub mod Keeping
 pub mod Laws

@@ -49,7 +49,7 @@ pub record IsOnce (b : Building) (n : ℕ) (events : List Event) : Type 0 where
 
 -- ---- lists
 
-count-cons : {X : Type 0} (p : X → Bool) (x : X) (xs : List X) → count_by p (x ∷ xs) ≡ cond (p x) 1 0 + count_by p xs
+pub count-cons : {X : Type 0} (p : X → Bool) (x : X) (xs : List X) → count_by p (x ∷ xs) ≡ cond (p x) 1 0 + count_by p xs
 count-cons p x xs = sum_by-cons (λ y. cond (p y) 1 0) x xs
 
 count-take : {X : Type 0} (p : X → Bool) (xs : List X) (k : ℕ) → count_by p (take k xs) ≤ count_by p xs
@@ -233,7 +233,7 @@ set-once bs n b events lt own others m = subst (λ (c : Building). IsOnce c m ev
     by false apart = others m apart
 
 -- one build more, where none stood
-push-once : (P : ℕ → Building → Type 0) (bs : List Building) (b : Building) → ((k : ℕ) → P k (build_at bs k)) → ((k : ℕ) → P k no_build → P k b) → (m : ℕ) → P m (build_at (bs ++ b ∷ []) m)
+pub push-once : (P : ℕ → Building → Type 0) (bs : List Building) (b : Building) → ((k : ℕ) → P k (build_at bs k)) → ((k : ℕ) → P k no_build → P k b) → (m : ℕ) → P m (build_at (bs ++ b ∷ []) m)
 push-once P [] b all own zero = own 0 (all 0)
 push-once P [] b all own (suc m) = all (suc m)
 push-once P (c ∷ bs) b all own zero = all 0

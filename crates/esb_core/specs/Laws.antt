@@ -1,5 +1,5 @@
 -- What the questions about a list come to, in terms of the events that decide them.
-use Rattle.std.specs.Prelude.{◌≡◌, ℕ, ◌<◌, ◌≤◌, Bool, true, false, ◌&&◌, nat_eq, List, [], ◌∷◌, ◌++◌, length, filter, codes, slice_get, Option, None, Some, IsSome, Ok}
+use Rattle.std.specs.Prelude.{◌≡◌, ℕ, ◌<◌, ◌≤◌, Bool, true, false, not, ◌&&◌, ◌||◌, nat_eq, List, [], ◌∷◌, ◌++◌, length, filter, codes, slice_get, Option, None, Some, IsSome, Ok}
 use Rattle.std.specs.List.{list_any}
 use Rattle.esb_wire.specs.declared.value.Packet.{Packet}
 use Rattle.esb_flags.specs.declared.command.Command.TheVariants as command
@@ -14,6 +14,7 @@ use Rattle.esb_core.specs.declared.out.Out.{Out}
 use Rattle.esb_core.specs.declared.out.Out.TheVariants as out
 use Rattle.esb_core.specs.declared.out.Body.TheVariants as body
 use Rattle.esb_core.specs.declared.event.Job.TheVariants as job
+use Rattle.esb_core.specs.declared.event.Role.TheVariants as role
 use Rattle.esb_core.specs.declared.event.Event.{Event}
 use Rattle.esb_core.specs.declared.event.Event.TheVariants as event
 use Rattle.esb_core.specs.declared.event.Told.{Told}
@@ -61,6 +62,46 @@ abbrev pub claims_link : ℕ → Event → Bool
 claims_link n (event.Claim r (job.Scan m u)) = false
 claims_link n (event.Claim r (job.Link m)) = nat_eq m n
 claims_link n e = false
+
+-- ---- what a worker holds
+
+-- whether an event gives this task of the build to this worker, and whether it gives it the link
+abbrev pub gives_task : ℕ → ℕ → Task → Event → Bool
+gives_task worker n t (event.Claim (role.Worker w) (job.Scan m u)) = nat_eq w worker && (nat_eq m n && same_task u t)
+gives_task worker n t (event.Claim (role.Worker w) (job.Link m)) = false
+gives_task worker n t (event.Claim (role.Door door) j) = false
+gives_task worker n t e = false
+
+abbrev pub gives_link : ℕ → ℕ → Event → Bool
+gives_link worker n (event.Claim (role.Worker w) (job.Scan m u)) = false
+gives_link worker n (event.Claim (role.Worker w) (job.Link m)) = nat_eq w worker && nat_eq m n
+gives_link worker n (event.Claim (role.Door door) j) = false
+gives_link worker n e = false
+
+-- whether an event is the worker's delivery of the task
+abbrev pub delivers : ℕ → ℕ → Task → Event → Bool
+delivers worker n t (event.Deliver w m u p) = nat_eq w worker && (nat_eq m n && same_task u t)
+delivers worker n t e = false
+
+-- whether the worker settles the build
+abbrev pub settles_by : ℕ → ℕ → Event → Bool
+settles_by worker n (event.Settle w m o) = nat_eq w worker && nat_eq m n
+settles_by worker n e = false
+
+-- the worker was given the task, and has neither delivered it nor settled the build
+abbrev pub holds_task : List Event → ℕ → ℕ → Task → Bool
+holds_task events worker n t = list_any (gives_task worker n t) events && not (list_any (delivers worker n t) events || list_any (settles_by worker n) events)
+
+-- the worker was given the link, and has not settled the build
+abbrev pub holds_link : List Event → ℕ → ℕ → Bool
+holds_link events worker n = list_any (gives_link worker n) events && not (list_any (settles_by worker n) events)
+
+-- the worker holds a task of the build
+pub record HoldsTask (events : List Event) (worker n : ℕ) : Type 0 where
+  pub task : Task
+  pub held : holds_task events worker n task ≡ true
+
+-- ---- answers and requests
 
 -- whether a pair has the answer to this question
 abbrev pub is_about : Question → Question × Answer → Bool

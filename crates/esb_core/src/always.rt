@@ -1,5 +1,5 @@
 //! Laws over lists of events. Each function's contract is the law, and its body does nothing: a caller learns the law by the call.
-ghost use Rattle.std.specs.Prelude.{◌≡◌, ◌+◌, ◌<◌, ◌≤◌, ◌↔◌, ◌&&◌, ◌++◌, ◌∷◌, [], ℕ, Bool, true, not, nat_lt, count_by, length, take, List, None, Ok, Err, Some};
+ghost use Rattle.std.specs.Prelude.{◌≡◌, ◌+◌, ◌<◌, ◌≤◌, ◌↔◌, ◌⊎◌, ◌&&◌, ◌++◌, ◌∷◌, [], ℕ, Bool, true, false, not, nat_lt, count_by, length, take, List, None, Ok, Err, Some};
 ghost use Rattle.std.specs.List.{list_any};
 ghost use Rattle.esb_wire.specs.declared.value.Packet.{Packet};
 ghost use Rattle.esb_flags.specs.declared.options.Options.{Options};
@@ -8,15 +8,20 @@ ghost use Rattle.esb_flags.specs.Command.{asked};
 ghost use Rattle.esb_ask.specs.declared.question.Question.{Question};
 ghost use Rattle.esb_ask.specs.declared.answer.Answer.{Answer};
 ghost use Rattle.esb_ask.specs.declared.outcome.Outcome.{Outcome};
+ghost use Rattle.esb_ask.specs.declared.message.Message.{Message};
+ghost use Rattle.esb_ask.specs.declared.outcome.OutFile.{OutFile};
+ghost use Rattle.esb_ask.specs.declared.outcome.Outcome.TheVariants as outcomes;
+ghost use Rattle.esb_ask.specs.declared.product.Product.{Product};
 ghost use Rattle.esb_ask.specs.declared.task.Task.{Task};
 ghost use Rattle.esb_ask.specs.Table.{answer_to, fits};
+ghost use Rattle.esb_ask.specs.Tasks.{product_fits};
 ghost use Rattle.esb_core.specs.declared.event.Event.{Event};
 ghost use Rattle.esb_core.specs.declared.event.Event.TheVariants as events_of;
 ghost use Rattle.esb_core.specs.declared.out.Body.TheVariants as bodies;
 ghost use Rattle.esb_core.specs.declared.out.Out.TheVariants as outs;
 ghost use Rattle.esb_core.specs.Allowed.{allowed, is_closing, may_arrive};
 ghost use Rattle.esb_core.specs.History.{all_owed, answers, build, builds, is_legal, next, outcome, owed, pops, replay, StandsFor, table};
-ghost use Rattle.esb_core.specs.Laws.{claims_link, claims_task, ends_input, is_about, is_refusal, is_request, no_room, reply_for, results_of, tells, waits_for, IsAnsweredBy, IsBegunBy, IsOver, IsSettledBy, ShowsHistory};
+ghost use Rattle.esb_core.specs.Laws.{claims_link, claims_task, ends_input, holds_link, holds_task, is_about, is_refusal, is_request, no_room, reply_for, results_of, tells, waits_for, HoldsTask, IsAnsweredBy, IsBegunBy, IsOver, IsSettledBy, ShowsHistory};
 ghost use Rattle.esb_core.specs.State.{State};
 ghost use Rattle.esb_core.specs.Steps.{most_builds};
 
@@ -85,13 +90,24 @@ pub fn told_is_the_history()
     ensures { (events : List Event) (event : Event) → is_legal events ≡ true → next events event ≡ tells events event }
 {}
 
-/// Which packets, ends, answers and pops may come after a list, and when it is over.
+/// Which events but a claim may come after a list, and when it is over. A worker delivers what it was given and has not given
+/// back; it ends a build with its link, and with any work of it where memory was refused.
 pub fn events_that_may_come()
     ensures arrive { (events : List Event) (packet : Packet) → is_legal events ≡ true
         → allowed (replay events) (events_of.Arrive packet) ≡ (not (list_any ends_input events) && may_arrive packet) }
     ensures end_of_input { (events : List Event) → is_legal events ≡ true → allowed (replay events) events_of.EndOfInput ≡ not (list_any ends_input events) }
     ensures record_of { (events : List Event) (worker n : ℕ) (question : Question) (answer : Answer) → is_legal events ≡ true
         → allowed (replay events) (events_of.Record worker n question answer) ≡ (nat_lt n (length (builds events)) && fits question answer) }
+    ensures deliver { (events : List Event) (worker n : ℕ) (task : Task) (product : Product) → is_legal events ≡ true
+        → allowed (replay events) (events_of.Deliver worker n task product) ≡ (holds_task events worker n task && product_fits task product) }
+    ensures files { (events : List Event) (worker n : ℕ) (files : List OutFile) → is_legal events ≡ true
+        → allowed (replay events) (events_of.Settle worker n (outcomes.Files files)) ≡ holds_link events worker n }
+    ensures errors { (events : List Event) (worker n : ℕ) (messages : List Message) → is_legal events ≡ true
+        → allowed (replay events) (events_of.Settle worker n (outcomes.Errors messages)) ≡ holds_link events worker n }
+    ensures canceled { (events : List Event) (worker n : ℕ) → is_legal events ≡ true
+        → allowed (replay events) (events_of.Settle worker n outcomes.Canceled) ≡ false }
+    ensures memory { (events : List Event) (worker n : ℕ) → is_legal events ≡ true
+        → (allowed (replay events) (events_of.Settle worker n outcomes.Memory) ≡ true) ↔ ((holds_link events worker n ≡ true) ⊎ HoldsTask events worker n) }
     ensures pop { (events : List Event) → is_legal events ≡ true → allowed (replay events) events_of.Pop ≡ nat_lt 0 (length (owed events)) }
     ensures closing { (events : List Event) → is_legal events ≡ true → (is_closing (replay events) ≡ true) ↔ IsOver events }
 {}
