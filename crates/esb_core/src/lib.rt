@@ -19,3 +19,6 @@ pub use event::{Claimed, Event, Job, Journal, Role, Told};
 pub use machine::Machine;
 pub use out::{Body, Out};
 pub use view::View;
+
+#[cfg(test)]
+mod tests;
