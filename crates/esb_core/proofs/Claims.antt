@@ -1,5 +1,5 @@
 -- What the first open job says of its build.
-use Rattle.std.proofs.Common.{◌≡◌, ℕ, zero, suc, ◌+◌, ◌<◌, ◌≤◌, Bool, true, false, ◌&&◌, List, [], ◌∷◌, length, Option, None, Some, refl, sym, ap, subst, ◌∙◌, arith, nat_eq, slice_get}
+use Rattle.std.proofs.Common.{◌≡◌, ℕ, suc, ◌+◌, ◌<◌, Bool, true, false, ◌&&◌, List, [], ◌∷◌, length, Option, None, Some, refl, sym, ap, subst, ◌∙◌, arith, nat_eq, slice_get}
 use Rattle.std.proofs.lemmas.Bool.{false≢true, eqb-true}
 use Rattle.std.proofs.lemmas.Option.{slice_get_within}
 use Rattle.esb_ask.specs.declared.task.Task.{Task}
@@ -8,7 +8,6 @@ use Rattle.esb_ask.specs.Tasks.{same_task}
 use Rattle.esb_ask.proofs.SameTask.{same_task-Decides}
 use Rattle.esb_core.specs.declared.event.Job.{Job}
 use Rattle.esb_core.specs.declared.event.Job.TheVariants as job
-use Rattle.esb_core.specs.declared.event.Role.{Role}
 use Rattle.esb_core.specs.declared.event.Role.TheVariants as role
 use Rattle.esb_core.specs.State.{Building, State, build_at}
 use Rattle.esb_core.specs.Allowed.{job_of, job_unless, job_by, link_if, is_scanned, or_next, first_from, first_job, same_job, names_job}

@@ -1,9 +1,8 @@
 -- Settled builds have no job, so the first ones may be passed over.
-use Rattle.std.proofs.Common.{◌≡◌, ℕ, zero, suc, ◌+◌, ◌<◌, ◌≤◌, Bool, true, false, ◌&&◌, List, [], ◌∷◌, length, drop, Option, None, Some, is_some, refl, sym, ap, ◌∙◌, arith}
+use Rattle.std.proofs.Common.{◌≡◌, ℕ, zero, suc, ◌+◌, ◌<◌, ◌≤◌, true, ◌&&◌, List, [], ◌∷◌, length, drop, Option, None, Some, is_some, refl, ap, ◌∙◌, arith}
 use Rattle.std.specs.List.{list_all}
 use Rattle.std.proofs.lemmas.Bool.{false≢true}
 use Rattle.esb_ask.specs.declared.outcome.Outcome.{Outcome}
-use Rattle.esb_core.specs.declared.event.Job.{Job}
 use Rattle.esb_core.specs.State.{Building, build_at}
 use Rattle.esb_core.specs.Allowed.{job_of, job_unless, or_next, first_from, is_settled}
 

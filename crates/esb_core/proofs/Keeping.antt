@@ -1,8 +1,8 @@
 -- What the tables keep when a build is added.
-use Rattle.std.proofs.Common.{◌≡◌, ℕ, ◌+◌, ◌<◌, ◌≤◌, true, List, [], ◌∷◌, ◌++◌, length, refl, sym, ap, ◌∙◌, arith}
+use Rattle.std.proofs.Common.{◌≡◌, ℕ, ◌+◌, ◌≤◌, List, [], ◌∷◌, ◌++◌, length, ap, ◌∙◌, arith}
 use Rattle.std.proofs.Math.ListN.{get_or-append}
 use Rattle.std.proofs.lemmas.List.Sums.{sum_by-append}
-use Rattle.esb_core.specs.State.{Building, build_at, no_build}
+use Rattle.esb_core.specs.State.{Building, no_build}
 use Rattle.esb_core.specs.Allowed.{is_settled}
 use Rattle.esb_core.specs.Kept.{active, load}
 use Rattle.esb_core.proofs.Jobs.{AreSettled}

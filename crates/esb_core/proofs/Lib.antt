@@ -1,7 +1,17 @@
+pub mod Accounts
+pub mod Begins
 pub mod Claims
+pub mod Ends
+pub mod Firsts
+pub mod Grows
+pub mod Held
 pub mod Jobs
 pub mod Keeping
 pub mod Laws
+pub mod Legal
+pub mod Once
 pub mod Pushes
 pub mod Readings
 pub mod Replays
+pub mod Shows
+pub mod Tells

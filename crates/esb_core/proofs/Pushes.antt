@@ -1,6 +1,6 @@
 -- What the questions about a list answer once one more event came.
-use Rattle.std.proofs.Common.{◌≡◌, ℕ, ◌+◌, ◌≤◌, Bool, true, false, cond, List, [], ◌∷◌, ◌++◌, length, drop, Option, None, Some, refl, sym, ap, ◌∙◌, append_assoc, arith, nat_eq}
-use Rattle.std.specs.List.{fold}
+use Rattle.std.proofs.Common.{◌≡◌, ℕ, ◌+◌, Bool, true, false, cond, List, [], ◌∷◌, ◌++◌, Option, None, Some, refl, sym, ap, ◌∙◌, append_assoc, arith, nat_eq}
+use Rattle.std.specs.List.{fold, count_by}
 use Rattle.std.proofs.lemmas.List.Sums.{fold-append, sum_by-append}
 use Rattle.esb_ask.specs.declared.question.Question.{Question}
 use Rattle.esb_ask.specs.declared.answer.Answer.{Answer}
@@ -16,7 +16,7 @@ pub or_later-None : (o : Option Outcome) → or_later o None ≡ o
 or_later-None None = refl
 or_later-None (Some o) = refl
 
-or_later-assoc : (o p q : Option Outcome) → or_later o (or_later p q) ≡ or_later (or_later o p) q
+pub or_later-assoc : (o p q : Option Outcome) → or_later o (or_later p q) ≡ or_later (or_later o p) q
 or_later-assoc None p q = refl
 or_later-assoc (Some o) p q = refl
 
@@ -33,7 +33,7 @@ abbrev pub added : Option Outcome → List (Question × Answer) → List (Questi
 added None xs more = xs ++ more
 added (Some o) xs more = xs
 
-added-past : (n : ℕ) (d : Event) (o : Option Outcome) (xs more : List (Question × Answer)) → answers_with n d (added o xs more) ≡ added (or_later (settled_by n d) o) (answers_with n d xs) more
+pub added-past : (n : ℕ) (d : Event) (o : Option Outcome) (xs more : List (Question × Answer)) → answers_with n d (added o xs more) ≡ added (or_later (settled_by n d) o) (answers_with n d xs) more
 added-past n (event.Record worker m question answer) o xs more = by (nat_eq m n) o
   where
     by : (t : Bool) (p : Option Outcome) → cond t ((question, answer) ∷ added p xs more) (added p xs more) ≡ added p (cond t ((question, answer) ∷ xs) xs) more
@@ -81,6 +81,9 @@ gathered_from-push f before (d ∷ es) e =
 
 pub gathered-push : {X : Type 0} (f : List Event → Event → List X) (es : List Event) (e : Event) → gathered f (es ++ e ∷ []) ≡ gathered f es ++ f es e
 gathered-push f es e = gathered_from-push f [] es e
+
+pub count-push : {X : Type 0} (p : X → Bool) (xs : List X) (x : X) → count_by p (xs ++ x ∷ []) ≡ count_by p xs + cond (p x) 1 0
+count-push p xs x = sum_by-append (λ y. cond (p y) 1 0) xs (x ∷ []) ∙ omega arith
 
 abbrev pub pop_of : Event → ℕ
 pop_of e = cond (is_pop e) 1 0

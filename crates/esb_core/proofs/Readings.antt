@@ -1,27 +1,15 @@
 -- The state of a legal list has what the direct questions answer.
-use Rattle.std.proofs.Common.{◌≡◌, ℕ, zero, suc, ◌+◌, ◌<◌, ◌≤◌, Bool, true, false, cond, not, ◌&&◌, List, [], ◌∷◌, ◌++◌, length, drop, map, Option, None, Some, Ok, Err, refl, sym, ap, subst, ◌∙◌, arith, nat_eq, nat_lt, slice_set}
-use Rattle.std.specs.List.{fold}
-use Rattle.std.proofs.Math.ListN.{get_or-append}
-use Rattle.std.proofs.Math.Seq.{map-set_same, get_or-append_right}
-use Rattle.std.proofs.lemmas.List.{get_or-set_same, get_or-set_other, drop-append-le, drop-drop, length-map, length-drop, length-append}
-use Rattle.std.proofs.lemmas.Bool.{false≢true, eqb-true, ltb-true}
-use Rattle.esb_wire.specs.declared.value.Packet.{Packet}
-use Rattle.esb_flags.specs.declared.options.Options.{Options}
-use Rattle.esb_flags.specs.declared.command.Command.{Command}
-use Rattle.esb_flags.specs.declared.command.Command.TheVariants as command
-use Rattle.esb_flags.specs.Fields.{Answer as Asked}
-use Rattle.esb_flags.specs.Command.{asked}
+use Rattle.std.proofs.Common.{◌≡◌, ℕ, zero, suc, ◌<◌, ◌≤◌, Bool, true, false, cond, List, [], ◌∷◌, ◌++◌, length, drop, map, Option, None, Some, refl, sym, ap, ◌∙◌, arith, nat_eq, slice_set}
+use Rattle.std.proofs.Math.Seq.{map-set_same}
+use Rattle.std.proofs.lemmas.List.{get_or-set_same, get_or-set_other, drop-append-le, drop-drop, length-drop, length-append}
+use Rattle.std.proofs.lemmas.Bool.{false≢true, eqb-true}
 use Rattle.esb_ask.specs.declared.question.Question.{Question}
 use Rattle.esb_ask.specs.declared.answer.Answer.{Answer}
 use Rattle.esb_ask.specs.declared.outcome.Outcome.{Outcome}
 use Rattle.esb_core.specs.declared.out.Out.{Out}
 use Rattle.esb_core.specs.declared.event.Event.{Event}
-use Rattle.esb_core.specs.declared.event.Event.TheVariants as event
-use Rattle.esb_core.specs.State.{Building, State, build_at, no_build, start}
-use Rattle.esb_core.specs.Steps
-use Rattle.esb_core.specs.Steps.{after, most_builds}
-use Rattle.esb_core.specs.Allowed.{allowed}
-use Rattle.esb_core.specs.History.{Begun, begun_at, begun_by, builds, settled_by, or_later, outcome, keep, table, owes, refused, closes, all_owed, pops, is_legal, is_legal_from, replay, replay_from, StandsFor, gathered}
+use Rattle.esb_core.specs.State.{Building, State, build_at, no_build}
+use Rattle.esb_core.specs.History.{Begun, begun_at, builds, settled_by, or_later, outcome, table, owes, all_owed, pops}
 use Rattle.esb_core.proofs.Pushes.{builds-push, or_later-None, outcome-push, one, table_with, table-push, gathered-push, pop_of, pops-push}
 
 abbrev pub begun_of : Building → Begun

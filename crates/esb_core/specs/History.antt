@@ -1,5 +1,5 @@
 -- Lists of events: which are legal, and the direct answers to questions about them.
-use Rattle.std.specs.Prelude.{◌≡◌, ℕ, ◌+◌, Bool, true, false, ◌&&◌, if◌then◌else◌, nat_eq, nat_lt, List, [], ◌∷◌, ◌++◌, length, drop, count_by, fold, codes, slice_index_or, Option, None, Some, Ok, Err}
+use Rattle.std.specs.Prelude.{◌≡◌, ℕ, Bool, true, false, ◌&&◌, if◌then◌else◌, nat_eq, nat_lt, List, [], ◌∷◌, ◌++◌, length, drop, count_by, fold, codes, slice_index_or, Option, None, Some, Ok, Err}
 use Rattle.esb_wire.specs.declared.value.Packet.{Packet}
 use Rattle.esb_flags.specs.declared.options.Options.{Options}
 use Rattle.esb_flags.specs.declared.command.Command.{Command}

@@ -1,5 +1,5 @@
 -- What the machine's tables stand for, and what they keep.
-use Rattle.std.specs.Prelude.{◌≡◌, ℕ, ◌+◌, ◌<◌, ◌≤◌, true, sum_by, List, length, Option, None, Some}
+use Rattle.std.specs.Prelude.{◌≡◌, ℕ, ◌<◌, ◌≤◌, true, sum_by, List, length, Option, None, Some}
 use Rattle.esb_ask.specs.declared.outcome.Outcome.{Outcome}
 use Rattle.esb_core.specs.State.{Building, State, build_at}
 use Rattle.esb_core.specs.Steps.{most_builds}

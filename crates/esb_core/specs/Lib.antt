@@ -4,3 +4,4 @@ pub mod Allowed
 pub mod History
 pub mod Queue
 pub mod Kept
+pub mod Laws

@@ -1,7 +1,6 @@
 -- One step of the machine: an equation for each event.
 use Rattle.std.specs.Prelude.{ℕ, zero, suc, ◌+◌, Bool, true, false, not, ◌&&◌, if◌then◌else◌, nat_eq, nat_lt, List, [], ◌∷◌, ◌++◌, length, filter, drop, slice_set, slice_get, codes, Option, None, Some, Ok, Err}
 use Rattle.std.specs.List.{list_any}
-use Rattle.esb_base.specs.declared.file_name.FileName.{FileName}
 use Rattle.esb_wire.specs.declared.value.Packet.{Packet}
 use Rattle.esb_flags.specs.declared.options.Options.{Options}
 use Rattle.esb_flags.specs.declared.command.Command.{Command}

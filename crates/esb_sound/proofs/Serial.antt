@@ -74,18 +74,18 @@ arrivals-append : (es fs : List Event) → arrivals (es ++ fs) ≡ arrivals es +
 arrivals-append [] fs = refl
 arrivals-append (e ∷ es) fs = ap (λ (ps : List Packet). arrived e ++ ps) (arrivals-append es fs) ∙ sym (append_assoc (arrived e) (arrivals es) (arrivals fs))
 
-follows-from : (world : List Folder) (packets : List Packet) (before es : List Event) → Each-from (IsInTurn world) before es → lapses es ≡ 0 → packets ≡ arrivals before ++ arrivals es
+follows-from : (tells : Type 0) (world : List Folder) (packets : List Packet) (before es : List Event) → tells → Each-from (IsInTurn tells world) before es → lapses es ≡ 0 → packets ≡ arrivals before ++ arrivals es
     → Each-from (Follows world packets) before es
-follows-from world packets before [] all none is = tt
-follows-from world packets before (e ∷ es) all none is =
+follows-from tells world packets before [] t all none is = tt
+follows-from tells world packets before (e ∷ es) t all none is =
     let rest = none-here e es none in (
-      (all.0.follows rest.0 packets (arrives-here packets before es e is), all.0.goes_on),
-      follows-from world packets (before ++ e ∷ []) es all.1 rest.1 (is ∙ one-more),
+      (all.0.follows t rest.0 packets (arrives-here packets before es e is), all.0.goes_on),
+      follows-from tells world packets (before ++ e ∷ []) es t all.1 rest.1 (is ∙ one-more),
     )
   where
     one-more : arrivals before ++ arrivals (e ∷ es) ≡ arrivals (before ++ e ∷ []) ++ arrivals es
     one-more = ap (λ (ps : List Packet). arrivals before ++ ps) (arrivals-append (e ∷ []) es) ∙ sym (append_assoc (arrivals before) (arrivals (e ∷ [])) (arrivals es)) ∙ ap (λ (ps : List Packet). ps ++ arrivals es) (sym (arrivals-append before (e ∷ [])))
 
 -- where there are no lapses, each event of a history in turn is the one that comes next
-pub all-follow : (world : List Folder) (list : List Event) → InTurn world list → lapses list ≡ 0 → Each (Follows world (arrivals list)) list
-all-follow world list all none = follows-from world (arrivals list) [] list all none refl
+pub all-follow : (tells : Type 0) (world : List Folder) (list : List Event) → tells → InTurn tells world list → lapses list ≡ 0 → Each (Follows world (arrivals list)) list
+all-follow tells world list t all none = follows-from tells world (arrivals list) [] list t all none refl

@@ -1,5 +1,5 @@
 -- The one history that a world and the packets of an input give on one thread: what is owed is sent first, then the first open job is claimed and done whole, and else the next packet is read.
-use Rattle.std.specs.Prelude.{◌≡◌, ℕ, Bool, true, false, List, [], ◌∷◌, ◌++◌, length, fold, count_by, slice_get, Option, Some, None, Result, Ok, Err}
+use Rattle.std.specs.Prelude.{◌≡◌, ◌⊎◌, ℕ, Bool, true, false, List, [], ◌∷◌, ◌++◌, length, fold, count_by, slice_get, Option, Some, None, Result, Ok, Err}
 use Rattle.esb_base.specs.World.{Folder}
 use Rattle.esb_wire.specs.declared.value.Packet.{Packet}
 use Rattle.esb_ask.specs.declared.task.Task.{Task}
@@ -119,10 +119,28 @@ abbrev pub Arrives : List Packet → List Event → Event → Type 0
 Arrives packets before (events.Arrive packet) = slice_get packets (length (arrivals before)) ≡ Some packet
 Arrives packets before e = Unit {0}
 
--- an event that comes in its turn, unless it is a lapse, and doesn't end the input
-pub record IsInTurn (world : List Folder) (before : List Event) (e : Event) : Type 0 where
-  pub goes_on : is_end e ≡ false
-  pub follows : is_lapse e ≡ false → (packets : List Packet) → Arrives packets before e → next world packets before ≡ Some e
+-- the one worker takes up a job where none is in hand, and gives back the one that is
+abbrev pub Handles : List Event → Event → Type 0
+Handles before (events.Claim role job) = (role ≡ roles.Worker 0) × (doing before ≡ None)
+Handles before (events.Deliver worker n task product) = (worker ≡ 0) × (doing before ≡ Some (jobs.Scan n task))
+Handles before (events.Settle worker n outcome) = (worker ≡ 0) × ((doing before ≡ Some (jobs.Link n)) ⊎ ((task : Task) × (doing before ≡ Some (jobs.Scan n task))))
+Handles before (events.Arrive packet) = Unit {0}
+Handles before events.EndOfInput = Unit {0}
+Handles before (events.Record worker n question answer) = Unit {0}
+Handles before events.Pop = Unit {0}
 
-abbrev pub InTurn : List Folder → List Event → Type 0
-InTurn world list = Each (IsInTurn world) list
+-- an event that comes in its turn where the world is told and it is no lapse, and doesn't end the input
+pub record IsInTurn (tells : Type 0) (world : List Folder) (before : List Event) (e : Event) : Type 0 where
+  pub goes_on : is_end e ≡ false
+  pub handles : Handles before e
+  pub follows : tells → is_lapse e ≡ false → (packets : List Packet) → Arrives packets before e → next world packets before ≡ Some e
+
+abbrev pub InTurn : Type 0 → List Folder → List Event → Type 0
+InTurn tells world list = Each (IsInTurn tells world) list
+
+-- ---- refusals
+
+-- a build that was settled for want of memory
+abbrev pub is_refused : Event → Bool
+is_refused (events.Settle worker n outcome) = is_refusal outcome
+is_refused e = false

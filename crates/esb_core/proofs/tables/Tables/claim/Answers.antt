@@ -1,7 +1,6 @@
-use Rattle.std.proofs.Common.{◌≡◌, true}
 use Rattle.esb_core.specs.declared.event.Job.TheVariants as job
 use Rattle.esb_core.specs.Kept.{state_of}
-use Rattle.esb_core.proofs.Claims.{IsOpen, IsReady, claim-is, scan-is, link-is}
+use Rattle.esb_core.proofs.Claims.{claim-is, scan-is, link-is}
 use Rattle.esb_core.proofs.tables.Tables.claim.Goals as goal
 
 pub claim_task-requires-clause-begun : goal.claim_task-requires-clause-begun

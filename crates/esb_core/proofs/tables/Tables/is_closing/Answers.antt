@@ -1,4 +1,4 @@
-use Rattle.std.proofs.Common.{◌≡◌, true, ◌&&◌, List, drop, ap, sym, ◌∙◌}
+use Rattle.std.proofs.Common.{◌&&◌, List, drop, ap, sym, ◌∙◌}
 use Rattle.std.specs.List.{list_all}
 use Rattle.std.proofs.lemmas.List.{take_rest}
 use Rattle.esb_core.specs.State.{Building}

@@ -1,0 +1,330 @@
+-- Each task and each link is claimed once.
+use Rattle.std.proofs.Common.{◌≡◌, ℕ, zero, suc, ◌+◌, ◌<◌, ◌≤◌, Bool, true, false, cond, ◌&&◌, List, [], ◌∷◌, ◌++◌, length, take, Option, None, Some, is_none, Ok, Err, refl, sym, ap, subst, ◌∙◌, arith, nat_eq, nat_lt, eq-eqb, eqb-true, ltb-true, length-append, slice_get, slice_set, ◌||◌}
+use Rattle.std.specs.Prelude.{count_by}
+use Rattle.std.specs.List.{list_any}
+use Rattle.std.proofs.lemmas.Bool.{false≢true}
+use Rattle.std.proofs.lemmas.List.{take-append-le}
+use Rattle.std.proofs.lemmas.List.Sums.{sum_by-cons}
+use Rattle.esb_wire.specs.declared.value.Packet.{Packet}
+use Rattle.esb_flags.specs.declared.options.Options.{Options}
+use Rattle.esb_flags.specs.declared.command.Command.{Command}
+use Rattle.esb_flags.specs.declared.command.Command.TheVariants as command
+use Rattle.esb_flags.specs.Fields.{Answer as Asked}
+use Rattle.esb_flags.specs.Command.{asked}
+use Rattle.esb_ask.specs.declared.question.Question.{Question}
+use Rattle.esb_ask.specs.declared.answer.Answer.{Answer}
+use Rattle.esb_ask.specs.declared.task.Task.{Task}
+use Rattle.esb_ask.specs.declared.task.Task.TheVariants as task
+use Rattle.esb_ask.specs.declared.product.Product.{Product}
+use Rattle.esb_ask.specs.declared.outcome.Outcome.{Outcome}
+use Rattle.esb_ask.specs.Table.{fits}
+use Rattle.esb_ask.specs.Tasks.{same_task, product_fits}
+use Rattle.esb_ask.proofs.SameTask.{same_task-Decides}
+use Rattle.esb_core.specs.declared.event.Job.{Job}
+use Rattle.esb_core.specs.declared.event.Job.TheVariants as job
+use Rattle.esb_core.specs.declared.event.Role.{Role}
+use Rattle.esb_core.specs.declared.event.Role.TheVariants as role
+use Rattle.esb_core.specs.declared.event.Event.{Event}
+use Rattle.esb_core.specs.declared.event.Event.TheVariants as event
+use Rattle.esb_core.specs.State.{Building, State, build_at, no_build, start}
+use Rattle.esb_core.specs.Steps
+use Rattle.esb_core.specs.Steps.{after, after_packet, after_command, begun_if, most_builds, entry_tasks_from, named, opened, task_claimed, link_claimed, recorded, delivered, settled}
+use Rattle.esb_core.specs.Allowed.{allowed, has_begun, first_job, names_job, has_task, may_settle}
+use Rattle.esb_core.specs.History.{is_legal, replay}
+use Rattle.esb_core.specs.Laws.{claims_task, claims_link}
+use Rattle.esb_core.proofs.Claims.{claim-is, scan-is, link-is, both_parts}
+use Rattle.esb_core.proofs.Pushes.{count-push}
+use Rattle.esb_core.proofs.Readings.{at-set}
+use Rattle.esb_core.proofs.Replays.{replay_from-append}
+use Rattle.esb_core.proofs.Legal.{each_legal}
+
+-- the tasks of a build differ, and those that were claimed are the first ones
+pub record IsOnce (b : Building) (n : ℕ) (events : List Event) : Type 0 where
+  pub claims : (t : Task) → count_by (claims_task n t) events ≡ count_by (same_task t) (take b.claimed b.tasks)
+  pub differ : (t : Task) → count_by (same_task t) b.tasks ≤ 1
+  pub within : b.claimed ≤ length b.tasks
+  pub free : b.outcome ≡ None → b.linker ≡ None → count_by (claims_link n) events ≡ 0
+  pub links : count_by (claims_link n) events ≤ 1
+  pub once : (t : Task) → count_by (claims_task n t) events ≤ 1
+
+-- ---- lists
+
+pub count-cons : {X : Type 0} (p : X → Bool) (x : X) (xs : List X) → count_by p (x ∷ xs) ≡ cond (p x) 1 0 + count_by p xs
+count-cons p x xs = sum_by-cons (λ y. cond (p y) 1 0) x xs
+
+count-take : {X : Type 0} (p : X → Bool) (xs : List X) (k : ℕ) → count_by p (take k xs) ≤ count_by p xs
+count-take p [] zero = omega arith
+count-take p [] (suc k) = omega arith
+count-take p (x ∷ xs) zero = omega arith
+count-take p (x ∷ xs) (suc k) =
+    let rest = count-take p xs k in
+    let more = count-cons p x xs in
+    let few = count-cons p x (take k xs) in
+    omega (arith, rest, more, few)
+
+count-none : {X : Type 0} (p : X → Bool) (xs : List X) → list_any p xs ≡ false → count_by p xs ≡ 0
+count-none p [] e = refl
+count-none p (x ∷ xs) e = count-cons p x xs ∙ by (p x) e (count-none p xs)
+  where
+    by : (t : Bool) → (t || list_any p xs) ≡ false → (list_any p xs ≡ false → count_by p xs ≡ 0) → cond t 1 0 + count_by p xs ≡ 0
+    by true is rec = absurd (false≢true (sym is))
+    by false is rec = let rest = rec is in omega (arith, rest)
+
+take-next : {X : Type 0} (xs : List X) (k : ℕ) (x : X) → slice_get xs k ≡ Some x → take (k + 1) xs ≡ take k xs ++ x ∷ []
+take-next [] k x e = absurd (let f : ⊥ = cc in f)
+take-next (y ∷ ys) zero x e = let same : y ≡ x = cc in ap (λ z. z ∷ []) same
+take-next (y ∷ ys) (suc k) x e = let next : suc k + 1 ≡ suc (k + 1) = omega arith in ap (λ j. take j (y ∷ ys)) next ∙ ap (λ zs. y ∷ zs) (take-next ys k x e)
+
+-- ---- the tasks of entries differ
+
+entries-past : (first k m : ℕ) → m < first → count_by (same_task (task.Entry m)) (entry_tasks_from first k) ≡ 0
+entries-past first zero m lt = refl
+entries-past first (suc k) m lt =
+    let rest = entries-past (first + 1) k m (omega arith) in
+    let all = count-cons (same_task (task.Entry m)) (task.Entry first) (entry_tasks_from (first + 1) k) in
+    let here : ◌≡◌ {A = ℕ} (cond (nat_eq m first) 1 0) 0 = by (nat_eq m first) refl in
+    omega (arith, rest, all, here)
+  where
+    by : (t : Bool) → nat_eq m first ≡ t → ◌≡◌ {A = ℕ} (cond t 1 0) 0
+    by true same = absurd (let is = eqb-true m first same in omega (arith, is, lt))
+    by false apart = refl
+
+entries-differ : (first k : ℕ) (t : Task) → count_by (same_task t) (entry_tasks_from first k) ≤ 1
+entries-differ first zero t = omega arith
+entries-differ first (suc k) (task.Load name) =
+    let rest = entries-differ (first + 1) k (task.Load name) in
+    let all = count-cons (same_task (task.Load name)) (task.Entry first) (entry_tasks_from (first + 1) k) in
+    omega (arith, rest, all)
+entries-differ first (suc k) (task.Entry m) =
+    let all = count-cons (same_task (task.Entry m)) (task.Entry first) (entry_tasks_from (first + 1) k) in
+    let few = by (nat_eq m first) refl (entries-differ (first + 1) k (task.Entry m)) in
+    omega (arith, all, few)
+  where
+    by : (t : Bool) → nat_eq m first ≡ t → count_by (same_task (task.Entry m)) (entry_tasks_from (first + 1) k) ≤ 1
+        → cond t 1 0 + count_by (same_task (task.Entry m)) (entry_tasks_from (first + 1) k) ≤ 1
+    by true same rest =
+        let none = entries-past (first + 1) k m (let is = eqb-true m first same in omega (arith, is)) in
+        omega (arith, none)
+    by false apart rest = omega (arith, rest)
+
+-- ---- an event
+
+-- the event claims nothing of this build
+unclaimed : (b : Building) (n : ℕ) (es : List Event) (e : Event) → ((t : Task) → claims_task n t e ≡ false) → claims_link n e ≡ false → IsOnce b n es → IsOnce b n (es ++ e ∷ [])
+unclaimed b n es e no_task no_link h = record {
+  claims = λ t. same t ∙ h.claims t;
+  differ = h.differ;
+  within = h.within;
+  free = λ none free. same_link ∙ h.free none free;
+  links = let few = h.links in omega (arith, same_link, few);
+  once = λ t. let few = h.once t in let is = same t in omega (arith, few, is);
+}
+  where
+    same : (t : Task) → count_by (claims_task n t) (es ++ e ∷ []) ≡ count_by (claims_task n t) es
+    same t = count-push (claims_task n t) es e ∙ ap (λ c. count_by (claims_task n t) es + cond c 1 0) (no_task t) ∙ omega arith
+
+    same_link : count_by (claims_link n) (es ++ e ∷ []) ≡ count_by (claims_link n) es
+    same_link = count-push (claims_link n) es e ∙ ap (λ c. count_by (claims_link n) es + cond c 1 0) no_link ∙ omega arith
+
+-- a build keeps its tasks, and whether its link may still be claimed
+reshaped : (b c : Building) (n : ℕ) (es : List Event) → c.tasks ≡ b.tasks → c.claimed ≡ b.claimed → (c.outcome ≡ None → c.linker ≡ None → (b.outcome ≡ None) × (b.linker ≡ None)) → IsOnce b n es → IsOnce c n es
+reshaped b c n es tasks claimed open_still h = record {
+  claims = λ t. h.claims t ∙ ap (λ (k : ℕ). count_by (same_task t) (take k b.tasks)) (sym claimed) ∙ ap (λ (ts : List Task). count_by (same_task t) (take c.claimed ts)) (sym tasks);
+  differ = λ t. subst (λ (ts : List Task). count_by (same_task t) ts ≤ 1) (sym tasks) (h.differ t);
+  within = let few = h.within in let long = ap length tasks in omega (arith, few, long, claimed);
+  free = λ none free. let still = open_still none free in h.free still.0 still.1;
+  links = h.links;
+  once = h.once;
+}
+
+settled_is_not : {X : Type 0} (o : Outcome) → Some o ≡ None → X
+settled_is_not o e = absurd (let f : ⊥ = cc in f)
+
+recorded-once : (b : Building) (n : ℕ) (es : List Event) (q : Question) (a : Answer) (o : Option Outcome) → IsOnce b n es → IsOnce (recorded b q a o) n es
+recorded-once b n es q a None h = reshaped b (recorded b q a None) n es refl refl (λ none free. (none, free)) h
+recorded-once b n es q a (Some o) h = h
+
+settled-once : (b : Building) (n : ℕ) (es : List Event) (worker : ℕ) (o : Outcome) (p : Option Outcome) → b.outcome ≡ p → IsOnce b n es → IsOnce (settled b worker o p) n es
+settled-once b n es worker o None is h = reshaped b (settled b worker o None) n es refl refl (λ none free. settled_is_not o none) h
+settled-once b n es worker o (Some p) is h = reshaped b (settled b worker o (Some p)) n es refl refl (λ none free. settled_is_not p (sym is ∙ none)) h
+
+opened-once : (b c : Building) (n : ℕ) (es : List Event) (u : Option Task) → c.tasks ≡ opened b.tasks u → c.claimed ≡ b.claimed → c.outcome ≡ b.outcome → c.linker ≡ b.linker → IsOnce b n es → IsOnce c n es
+opened-once b c n es None tasks claimed outcome linker h = reshaped b c n es tasks claimed (λ none free. (sym outcome ∙ none, sym linker ∙ free)) h
+opened-once b c n es (Some u) tasks claimed outcome linker h = by (list_any (same_task u) b.tasks) refl tasks
+  where
+    more : list_any (same_task u) b.tasks ≡ false → (t : Task) (s : Bool) → same_task t u ≡ s → count_by (same_task t) b.tasks + cond s 1 0 ≤ 1
+    more new t true same =
+        let none : count_by (same_task t) b.tasks ≡ 0 = ap (λ (v : Task). count_by (same_task v) b.tasks) ((same_task-Decides t u).0 same) ∙ count-none (same_task u) b.tasks new in
+        omega (arith, none)
+    more new t false apart = let few = h.differ t in omega (arith, few)
+
+    by : (s : Bool) → list_any (same_task u) b.tasks ≡ s → c.tasks ≡ cond s b.tasks (b.tasks ++ u ∷ []) → IsOnce c n es
+    by true old is = reshaped b c n es is claimed (λ none free. (sym outcome ∙ none, sym linker ∙ free)) h
+    by false new is = record {
+      claims = λ t.
+          h.claims t ∙ ap (λ (ts : List Task). count_by (same_task t) ts) (sym (take-append-le b.claimed b.tasks (u ∷ []) h.within))
+          ∙ ap (λ (k : ℕ). count_by (same_task t) (take k (b.tasks ++ u ∷ []))) (sym claimed) ∙ ap (λ (ts : List Task). count_by (same_task t) (take c.claimed ts)) (sym is);
+      differ = λ t.
+          let all : count_by (same_task t) c.tasks ≡ count_by (same_task t) b.tasks + cond (same_task t u) 1 0 = ap (λ (ts : List Task). count_by (same_task t) ts) is ∙ count-push (same_task t) b.tasks u in
+          let few = more new t (same_task t u) refl in
+          omega (arith, all, few);
+      within = let few = h.within in let long = ap length is in let one = length-append b.tasks (u ∷ []) in omega (arith, few, long, one, claimed);
+      free = λ none free. h.free (sym outcome ∙ none) (sym linker ∙ free);
+      links = h.links;
+      once = h.once;
+    }
+
+delivered-once : (b : Building) (n : ℕ) (es : List Event) (worker : ℕ) (t : Task) (p : Product) (o : Option Outcome) → IsOnce b n es → IsOnce (delivered b worker t p o) n es
+delivered-once b n es worker t p None h = opened-once b (delivered b worker t p None) n es (named p) refl refl refl refl h
+delivered-once b n es worker t p (Some o) h = reshaped b (delivered b worker t p (Some o)) n es refl refl (λ none free. (none, free)) h
+
+-- a worker claims the first task that is open
+scan-once : (b : Building) (n : ℕ) (es : List Event) (worker : ℕ) (t : Task) → slice_get b.tasks b.claimed ≡ Some t → b.claimed < length b.tasks → IsOnce b n es
+    → IsOnce (task_claimed b worker t) n (es ++ event.Claim (role.Worker worker) (job.Scan n t) ∷ [])
+scan-once b n es worker t first inside h = record {
+  claims = claims;
+  differ = h.differ;
+  within = omega (arith, inside);
+  free = λ none free. same_link ∙ h.free none free;
+  links = let few = h.links in omega (arith, same_link, few);
+  once = λ u. let all = claims u in let part = count-take (same_task u) b.tasks (b.claimed + 1) in let few = h.differ u in omega (arith, all, part, few);
+}
+  where
+    claims : (u : Task) → count_by (claims_task n u) (es ++ event.Claim (role.Worker worker) (job.Scan n t) ∷ []) ≡ count_by (same_task u) (take (b.claimed + 1) b.tasks)
+    claims u =
+        count-push (claims_task n u) es (event.Claim (role.Worker worker) (job.Scan n t))
+        ∙ ap (λ c. count_by (claims_task n u) es + cond (c && same_task u t) 1 0) (eq-eqb n n refl)
+        ∙ ap (λ k. k + cond (same_task u t) 1 0) (h.claims u)
+        ∙ sym (count-push (same_task u) (take b.claimed b.tasks) t)
+        ∙ ap (λ (ts : List Task). count_by (same_task u) ts) (sym (take-next b.tasks b.claimed t first))
+
+    same_link : count_by (claims_link n) (es ++ event.Claim (role.Worker worker) (job.Scan n t) ∷ []) ≡ count_by (claims_link n) es
+    same_link = count-push (claims_link n) es (event.Claim (role.Worker worker) (job.Scan n t)) ∙ omega arith
+
+link-once : (b : Building) (n : ℕ) (es : List Event) (worker : ℕ) → b.outcome ≡ None → b.linker ≡ None → IsOnce b n es
+    → IsOnce (link_claimed b worker) n (es ++ event.Claim (role.Worker worker) (job.Link n) ∷ [])
+link-once b n es worker none free h = record {
+  claims = λ t. same t ∙ h.claims t;
+  differ = h.differ;
+  within = h.within;
+  free = λ settled taken. absurd (let f : ⊥ = cc in f);
+  links =
+      let all = count-push (claims_link n) es (event.Claim (role.Worker worker) (job.Link n)) in
+      let own : ◌≡◌ {A = ℕ} (cond (nat_eq n n) 1 0) 1 = ap (λ (c : Bool). let k : ℕ = cond c 1 0 in k) (eq-eqb n n refl) in
+      let before = h.free none free in
+      omega (arith, all, own, before);
+  once = λ t. let few = h.once t in let is = same t in omega (arith, few, is);
+}
+  where
+    same : (t : Task) → count_by (claims_task n t) (es ++ event.Claim (role.Worker worker) (job.Link n) ∷ []) ≡ count_by (claims_task n t) es
+    same t = count-push (claims_task n t) es (event.Claim (role.Worker worker) (job.Link n)) ∙ omega arith
+
+-- ---- the builds
+
+abbrev pub AreOnce : List Building → List Event → Type 0
+AreOnce bs events = (m : ℕ) → IsOnce (build_at bs m) m events
+
+set-once : (bs : List Building) (n : ℕ) (b : Building) (events : List Event) → n < length bs → IsOnce b n events → ((m : ℕ) → nat_eq n m ≡ false → IsOnce (build_at bs m) m events)
+    → AreOnce (slice_set bs n b) events
+set-once bs n b events lt own others m = subst (λ (c : Building). IsOnce c m events) (sym (at-set bs n b m lt)) (by (nat_eq n m) refl)
+  where
+    by : (t : Bool) → nat_eq n m ≡ t → IsOnce (cond t b (build_at bs m)) m events
+    by true same = subst (λ (k : ℕ). IsOnce b k events) (eqb-true n m same) own
+    by false apart = others m apart
+
+-- one build more, where none stood
+pub push-once : (P : ℕ → Building → Type 0) (bs : List Building) (b : Building) → ((k : ℕ) → P k (build_at bs k)) → ((k : ℕ) → P k no_build → P k b) → (m : ℕ) → P m (build_at (bs ++ b ∷ []) m)
+push-once P [] b all own zero = own 0 (all 0)
+push-once P [] b all own (suc m) = all (suc m)
+push-once P (c ∷ bs) b all own zero = all 0
+push-once P (c ∷ bs) b all own (suc m) = push-once (λ k. P (suc k)) bs b (λ k. all (suc k)) (λ k. own (suc k)) m
+
+fresh-once : (id key : ℕ) (options : Options) (n : ℕ) (es : List Event) → IsOnce no_build n es → IsOnce (Steps.fresh id key options) n es
+fresh-once id key options n es h = record {
+  claims = λ t. h.claims t;
+  differ = λ t. entries-differ 0 (length options.entries) t;
+  within = omega arith;
+  free = λ none free. h.free refl refl;
+  links = h.links;
+  once = h.once;
+}
+
+module _ (s : State) (es : List Event) (all : AreOnce s.builds es) where
+  -- an event that claims nothing
+  idle : (e : Event) → ((n : ℕ) (t : Task) → claims_task n t e ≡ false) → ((n : ℕ) → claims_link n e ≡ false) → AreOnce s.builds (es ++ e ∷ [])
+  idle e no_task no_link m = unclaimed (build_at s.builds m) m es e (no_task m) (no_link m) (all m)
+
+  arrive-once : (p : Packet) → (let t : State = after_packet s p p.request in AreOnce t.builds (es ++ event.Arrive p ∷ []))
+  arrive-once p = by p.request
+    where
+      same : AreOnce s.builds (es ++ event.Arrive p ∷ [])
+      same = idle (event.Arrive p) (λ n t. refl) (λ n. refl)
+
+      room : (key : ℕ) (options : Options) (t : Bool) → (let u : State = begun_if s p.id key options t in AreOnce u.builds (es ++ event.Arrive p ∷ []))
+      room key options true =
+          push-once (λ k b. IsOnce b k (es ++ event.Arrive p ∷ [])) s.builds (Steps.fresh p.id key options) same (λ k h. fresh-once p.id key options k (es ++ event.Arrive p ∷ []) h)
+      room key options false = same
+
+      ask : (a : Asked Command) → (let u : State = after_command s p.id a in AreOnce u.builds (es ++ event.Arrive p ∷ []))
+      ask (Err text) = same
+      ask (Ok (command.Build key options)) = room key options (nat_lt (length s.builds) most_builds)
+
+      by : (t : Bool) → (let u : State = after_packet s p t in AreOnce u.builds (es ++ event.Arrive p ∷ []))
+      by true = ask (asked p.value)
+      by false = same
+
+  -- an event that changes one build and claims nothing
+  changes-once : (e : Event) (n : ℕ) (b : Building) → n < length s.builds → ((m : ℕ) (t : Task) → claims_task m t e ≡ false) → ((m : ℕ) → claims_link m e ≡ false)
+      → IsOnce b n es → AreOnce (slice_set s.builds n b) (es ++ e ∷ [])
+  changes-once e n b lt no_task no_link own = set-once s.builds n b (es ++ e ∷ []) lt (unclaimed b n es e (no_task n) (no_link n) own) (λ m apart. idle e no_task no_link m)
+
+  claims-once : (r : Role) (j : Job) → names_job (first_job s r) j ≡ true → (let t : State = Steps.after_claim s r j in AreOnce t.builds (es ++ event.Claim r j ∷ []))
+  claims-once (role.Worker worker) (job.Scan n t) may =
+      let open_one = scan-is s.builds n t (claim-is s worker (job.Scan n t) may) in
+      set-once s.builds n (task_claimed (build_at s.builds n) worker t) (es ++ event.Claim (role.Worker worker) (job.Scan n t) ∷ []) open_one.begun
+      (scan-once (build_at s.builds n) n es worker t open_one.first open_one.open_left (all n))
+      (λ m apart. unclaimed (build_at s.builds m) m es (event.Claim (role.Worker worker) (job.Scan n t)) (λ u. ap (λ c. c && same_task u t) apart) refl (all m))
+  claims-once (role.Worker worker) (job.Link n) may =
+      let ready = link-is s.builds n (claim-is s worker (job.Link n) may) in
+      let parts = both_parts (nat_eq (length (build_at s.builds n).claims) 0) (is_none (build_at s.builds n).linker) ready.scanned in
+      set-once s.builds n (link_claimed (build_at s.builds n) worker) (es ++ event.Claim (role.Worker worker) (job.Link n) ∷ []) ready.begun
+      (link-once (build_at s.builds n) n es worker ready.unsettled (none_of (build_at s.builds n).linker parts.1) (all n))
+      (λ m apart. unclaimed (build_at s.builds m) m es (event.Claim (role.Worker worker) (job.Link n)) (λ u. refl) apart (all m))
+    where
+      none_of : (o : Option ℕ) → is_none o ≡ true → o ≡ None
+      none_of None e = refl
+      none_of (Some k) e = absurd (false≢true e)
+  claims-once (role.Door door) j may = absurd (false≢true may)
+
+  step-once : (e : Event) → allowed s e ≡ true → (let t : State = after s e in AreOnce t.builds (es ++ e ∷ []))
+  step-once (event.Arrive packet) may = arrive-once packet
+  step-once event.EndOfInput may = idle event.EndOfInput (λ n t. refl) (λ n. refl)
+  step-once (event.Claim r j) may = claims-once r j may
+  step-once (event.Record worker n q a) may =
+      changes-once (event.Record worker n q a) n (recorded (build_at s.builds n) q a (build_at s.builds n).outcome) (ltb-true n (length s.builds) (both_parts (has_begun s n) (fits q a) may).0)
+      (λ m t. refl) (λ m. refl) (recorded-once (build_at s.builds n) n es q a (build_at s.builds n).outcome (all n))
+  step-once (event.Deliver worker n t p) may =
+      changes-once (event.Deliver worker n t p) n (delivered (build_at s.builds n) worker t p (build_at s.builds n).outcome)
+      (ltb-true n (length s.builds) (both_parts (has_begun s n) (has_task (build_at s.builds n) worker t && product_fits t p) may).0) (λ m u. refl) (λ m. refl)
+      (delivered-once (build_at s.builds n) n es worker t p (build_at s.builds n).outcome (all n))
+  step-once (event.Settle worker n o) may =
+      changes-once (event.Settle worker n o) n (settled (build_at s.builds n) worker o (build_at s.builds n).outcome)
+      (ltb-true n (length s.builds) (both_parts (has_begun s n) (may_settle (build_at s.builds n) worker o) may).0) (λ m t. refl) (λ m. refl)
+      (settled-once (build_at s.builds n) n es worker o (build_at s.builds n).outcome refl (all n))
+  step-once event.Pop may = idle event.Pop (λ n t. refl) (λ n. refl)
+
+none-once : AreOnce [] []
+none-once m = record {
+  claims = λ t. refl;
+  differ = λ t. omega arith;
+  within = omega arith;
+  free = λ none free. refl;
+  links = omega arith;
+  once = λ t. omega arith;
+}
+
+pub claimed-once : (events : List Event) → is_legal events ≡ true → (n : ℕ) → IsOnce (build_at (replay events).builds n) n events
+claimed-once events legal =
+    each_legal (λ es. AreOnce (replay es).builds es) none-once
+    (λ es e before may all. subst (λ (t : State). AreOnce t.builds (es ++ e ∷ [])) (sym (replay_from-append start es (e ∷ []))) (step-once (replay es) es all e may))
+    events legal

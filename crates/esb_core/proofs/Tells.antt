@@ -1,0 +1,85 @@
+-- What the machine tells, and which events may come, by the list.
+use Rattle.std.proofs.Common.{◌≡◌, ◌↔◌, ℕ, zero, suc, ◌<◌, Bool, true, not, ◌&&◌, List, [], ◌∷◌, length, Option, None, Some, IsSome, refl, sym, ap, subst, ◌∙◌, arith, nat_lt, slice_get}
+use Rattle.std.specs.List.{list_any, list_all}
+use Rattle.esb_wire.specs.declared.value.Packet.{Packet}
+use Rattle.esb_ask.specs.declared.question.Question.{Question}
+use Rattle.esb_ask.specs.declared.answer.Answer.{Answer}
+use Rattle.esb_ask.specs.declared.outcome.Outcome.{Outcome}
+use Rattle.esb_ask.specs.Table.{fits}
+use Rattle.esb_core.specs.declared.event.Event.{Event}
+use Rattle.esb_core.specs.declared.event.Event.TheVariants as event
+use Rattle.esb_core.specs.State.{Building, build_at}
+use Rattle.esb_core.specs.Steps.{told_record, told_pop, told_stale}
+use Rattle.esb_core.specs.Allowed.{allowed, is_closing, is_settled, may_arrive}
+use Rattle.esb_core.specs.History.{builds, owed, table, is_legal, replay, next}
+use Rattle.esb_core.specs.Laws.{ends_input, tells, tells_record, IsOver, ShowsHistory}
+use Rattle.esb_core.proofs.Claims.{both_parts}
+use Rattle.esb_core.proofs.Shows.{shows}
+
+shown : (events : List Event) → is_legal events ≡ true → ShowsHistory (replay events) events
+shown events legal = shows (replay events) events (record { legal = legal; replayed = refl })
+
+-- ---- what is told
+
+tells-record : (b : Building) (t : List (Question × Answer)) (q : Question) (a : Answer) (o : Option Outcome) → b.table ≡ t → told_record b q a o ≡ tells_record t q a o
+tells-record b t q a None same = ap (λ (u : List (Question × Answer)). tells_record u q a None) same
+tells-record b t q a (Some o) same = refl
+
+pub told-by : (events : List Event) (e : Event) → is_legal events ≡ true → next events e ≡ tells events e
+told-by events (event.Record worker n q a) legal =
+    let h = shown events legal in
+    let b : Building = build_at (replay events).builds n in
+    tells-record b (table events n) q a b.outcome (h.tables n) ∙ ap (λ o. tells_record (table events n) q a o) (h.outcomes n)
+told-by events (event.Deliver worker n t p) legal = let h = shown events legal in ap told_stale (h.outcomes n)
+told-by events (event.Settle worker n o) legal = let h = shown events legal in ap told_stale (h.outcomes n)
+told-by events event.Pop legal = let h = shown events legal in ap (λ os. told_pop (slice_get os 0)) h.owes
+told-by events (event.Arrive packet) legal = refl
+told-by events event.EndOfInput legal = refl
+told-by events (event.Claim role job) legal = refl
+
+-- ---- what may come
+
+pub may-arrive-by : (events : List Event) (packet : Packet) → is_legal events ≡ true → allowed (replay events) (event.Arrive packet) ≡ (not (list_any ends_input events) && may_arrive packet)
+may-arrive-by events packet legal = let h = shown events legal in ap (λ t. not t && may_arrive packet) h.ended
+
+pub may-end-by : (events : List Event) → is_legal events ≡ true → allowed (replay events) event.EndOfInput ≡ not (list_any ends_input events)
+may-end-by events legal = let h = shown events legal in ap not h.ended
+
+pub may-record-by : (events : List Event) (worker n : ℕ) (q : Question) (a : Answer) → is_legal events ≡ true
+    → allowed (replay events) (event.Record worker n q a) ≡ (nat_lt n (length (builds events)) && fits q a)
+may-record-by events worker n q a legal = let h = shown events legal in ap (λ k. nat_lt n k && fits q a) h.number
+
+pub may-pop-by : (events : List Event) → is_legal events ≡ true → allowed (replay events) event.Pop ≡ nat_lt 0 (length (owed events))
+may-pop-by events legal = let h = shown events legal in ap (λ os. nat_lt 0 (length os)) h.owes
+
+-- ---- the end
+
+each-settled : (bs : List Building) → list_all is_settled bs ≡ true → (n : ℕ) → n < length bs → IsSome (build_at bs n).outcome
+each-settled [] all n lt = absurd (omega arith)
+each-settled (b ∷ bs) all zero lt = (both_parts (is_settled b) (list_all is_settled bs) all).0
+each-settled (b ∷ bs) all (suc n) lt = each-settled bs (both_parts (is_settled b) (list_all is_settled bs) all).1 n (omega arith)
+
+both : (a b : Bool) → a ≡ true → b ≡ true → (a && b) ≡ true
+both a b h k = rw (h, k) refl
+
+all-settled : (bs : List Building) → ((n : ℕ) → n < length bs → IsSome (build_at bs n).outcome) → list_all is_settled bs ≡ true
+all-settled [] each = refl
+all-settled (b ∷ bs) each = both (is_settled b) (list_all is_settled bs) (each 0 (omega arith)) (all-settled bs (λ n lt. each (suc n) (omega arith)))
+
+pub closes-by : (events : List Event) → is_legal events ≡ true → (is_closing (replay events) ≡ true) ↔ IsOver events
+closes-by events legal = (over, back)
+  where
+    over : is_closing (replay events) ≡ true → IsOver events
+    over e =
+        let parts = both_parts (replay events).ended (list_all is_settled (replay events).builds) e in
+        let h = shown events legal in
+        record {
+          input = sym h.ended ∙ parts.0;
+          settled = λ n lt. subst (λ (o : Option Outcome). IsSome o) (h.outcomes n) (each-settled (replay events).builds parts.1 n (let same = h.number in omega (arith, same, lt)));
+        }
+
+    back : IsOver events → is_closing (replay events) ≡ true
+    back g =
+        let h = shown events legal in
+        both (replay events).ended (list_all is_settled (replay events).builds) (h.ended ∙ g.input)
+        (all-settled (replay events).builds (λ n lt. subst (λ (o : Option Outcome). IsSome o) (sym (h.outcomes n)) (g.settled n (let same = h.number in omega (arith, same, lt)))))
