@@ -16,7 +16,10 @@ const TEXTS: &str = "null\n\
 [1,[2],[]]\n\
 {}\n\
 { }\n\
-{ \"a\" : 1 , \"a\" : { \"\" : [ ] } }";
+{ \"a\" : 1 , \"a\" : { \"\" : [ ] } }\n\
+\t\r[\t1\r,\r2\t]\r\t\n\
+\"\\uABCD\\uabcd\\uDC00\\uD800\"\n\
+\"\u{2028}/'\u{10ffff}\"";
 
 /// Texts of no value, one in a line, each behind the place where reading fails.
 const OTHERS: &str = "0 \n\
@@ -44,7 +47,31 @@ const OTHERS: &str = "0 \n\
 2 \"\\x\"\n\
 5 \"\\u12g4\"\n\
 5 \"\\u12\n\
-0 \u{a0}1";
+0 \u{a0}1\n\
+1 [,1]\n\
+2 []]\n\
+1 [}\n\
+1 {,}\n\
+5 {\"a\":}\n\
+7 {\"a\":1 \"b\":2}\n\
+6 {\"a\":1:2}\n\
+7 {\"a\":1}}\n\
+1 {a:1}\n\
+2 -01\n\
+2 1e\n\
+1 0x1\n\
+2 1.e1\n\
+3 1.0.0\n\
+1 -Infinity\n\
+0 NaN\n\
+4 nulll\n\
+1 tRue\n\
+2 1 // one\n\
+1 \"\u{1f}\"\n\
+2 \"\\\n\
+2 \"\\U0041\"\n\
+7 \"\\ud800\n\
+3 \"a\"\"";
 
 /// The place of the fault. A text that is read answers a place that no text of a test has.
 fn place(alloc: Global, contents: &str) -> Result<usize, Fail> {
@@ -89,23 +116,35 @@ fn texts_of_no_value(rt: HostRuntime) -> Result<(), Fail> {
     Ok(())
 }
 
-/// The place of the fault in so many arrays, each in the one before.
-fn nested(alloc: Global, arrays: usize) -> Result<usize, Fail> {
+/// The place of the fault where so many arrays or objects stand in one another round a value.
+fn nested(
+    alloc: Global,
+    open: &str,
+    inner: &str,
+    close: &str,
+    count: usize,
+) -> Result<usize, Fail> {
     let mut text = String::new(alloc);
-    for _ in 0..arrays {
-        text.push('[')?;
+    for _ in 0..count {
+        text.push_str(open)?;
     }
-    for _ in 0..arrays {
-        text.push(']')?;
+    text.push_str(inner)?;
+    for _ in 0..count {
+        text.push_str(close)?;
     }
     place(alloc, text.as_str())
 }
 
 #[test]
 fn levels(rt: HostRuntime) -> Result<(), Fail> {
-    assert_eq!(rt; nested(rt.alloc(), 201)?, 1000);
-    assert_eq!(rt; nested(rt.alloc(), 202)?, 201);
-    assert_eq!(rt; nested(rt.alloc(), 5_000)?, 201);
+    let alloc = rt.alloc();
+    assert_eq!(rt; nested(alloc, "[", "", "]", 201)?, 1000);
+    assert_eq!(rt; nested(alloc, "[", "", "]", 202)?, 201);
+    assert_eq!(rt; nested(alloc, "[", "", "]", 5_000)?, 201);
+    assert_eq!(rt; nested(alloc, "[", "1", "]", 200)?, 1000);
+    assert_eq!(rt; nested(alloc, "[", "1", "]", 201)?, 201);
+    assert_eq!(rt; nested(alloc, "{\"\":", "{}", "}", 200)?, 1000);
+    assert_eq!(rt; nested(alloc, "{\"\":", "{}", "}", 201)?, 804);
     Ok(())
 }
 
@@ -146,5 +185,34 @@ const UNITS: [u16; 9] = [
 fn code_units(rt: HostRuntime) -> Result<(), Fail> {
     let expected = Json::Str(List::of(rt.alloc(), &UNITS)?);
     assert!(rt; reads(rt.alloc(), STRING, &expected)?);
+    Ok(())
+}
+
+/// Numbers, one in a line, that are kept as they are spelled.
+const NUMBERS: &str = "0\n\
+-0\n\
+10\n\
+1.0\n\
+1.00\n\
+-0.50e+3\n\
+1E-02\n\
+0e0\n\
+9007199254740993\n\
+1e400";
+
+/// Whether each number has its spelling as its value, and no other.
+fn all_are_kept(alloc: Global) -> Result<bool, Fail> {
+    for spelling in NUMBERS.lines() {
+        let number = Json::Number(Text::of(alloc, spelling)?);
+        if !reads(alloc, spelling, &number)? {
+            return Ok(false);
+        }
+    }
+    Ok(true)
+}
+
+#[test]
+fn spellings_of_numbers(rt: HostRuntime) -> Result<(), Fail> {
+    assert!(rt; all_are_kept(rt.alloc())?);
     Ok(())
 }
