@@ -12,3 +12,6 @@ mod units;
 pub use fault::TargetFault;
 pub use outcome::Target;
 pub use target::{exports_of, imports_of};
+
+#[cfg(test)]
+mod tests;
