@@ -1,5 +1,5 @@
 -- What a package's exports and imports lead to (Node.js, PACKAGE_EXPORTS_RESOLVE and PACKAGE_IMPORTS_RESOLVE).
-use Rattle.std.specs.Prelude.{◌≡◌, ℕ, Bool, true, false, ◌==◌, ◌||◌, not, nat_eq, if◌then◌else◌, List, [], ◌∷◌, slice_index, Option, Some, None, Result, Ok, Err, codes}
+use Rattle.std.specs.Prelude.{◌≡◌, ℕ, Bool, true, false, ◌==◌, ◌||◌, not, if◌then◌else◌, List, [], slice_index, Option, Some, None, Result, Ok, Err, codes}
 use Rattle.std.specs.List.{list_any}
 use Rattle.std.specs.Str.{bytes_eq}
 use Rattle.esb_json.specs.declared.value.Json.{Json, out-Json}

@@ -318,3 +318,9 @@ fn refused_specifiers(rt: HostRuntime) -> Result<(), Fail> {
     }
     Ok(())
 }
+
+#[test]
+fn laws_can_be_called() {
+    chosen_keys();
+    matches();
+}
