@@ -5,3 +5,4 @@ pub mod Nodes
 pub mod Opened
 pub mod Closest
 pub mod Parts
+pub mod Files

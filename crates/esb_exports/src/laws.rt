@@ -1,9 +1,11 @@
-//! Laws of the keys. Each function's contract is the law, and its body does nothing.
+//! Laws of keys and targets. Each function's contract is the law, and its body does nothing.
 
-ghost use Rattle.std.specs.Prelude.{◌≡◌, ◌≢◌, ℕ, ◌||◌, false, List, [], ◌∷◌, ◌++◌, IsTrue, Some, None};
+ghost use Rattle.std.specs.Prelude.{◌≡◌, ◌≢◌, ℕ, ◌||◌, false, List, [], ◌∷◌, ◌++◌, IsTrue, Some, None, Ok};
 ghost use Rattle.std.specs.List.{All};
 ghost use Rattle.esb_json.specs.declared.value.Json.{Json};
 ghost use Rattle.esb_exports.specs.Keys.{has_star, base_of, trailer_of, fits, match_of, is_exact, chosen, Takes};
+ghost use Rattle.esb_exports.specs.Targets.{exports_target, IsFile};
+ghost use Rattle.esb_exports.specs.declared.outcome.Target.{Target};
 
 /// A path takes the key that it is, or else a key with one star that it fits, of which none that it
 /// fits is closer: none has a longer part up to the star, or one as long and is longer itself
@@ -22,4 +24,10 @@ pub fn matches()
     ensures something { (key path : List ℕ) → IsTrue (fits key path) → match_of key path ≢ [] }
     ensures fits { (base matched trailer : List ℕ) → has_star base ≡ false → has_star trailer ≡ false → matched ≢ [] → IsTrue (fits (base ++ (42 ∷ trailer)) (base ++ (matched ++ trailer))) }
     ensures matched { (base matched trailer : List ℕ) → has_star base ≡ false → has_star trailer ≡ false → match_of (base ++ (42 ∷ trailer)) (base ++ (matched ++ trailer)) ≡ matched }
+{}
+
+/// Whatever `exports` say, they lead to no other package, but to a file by a path that begins with
+/// `./`.
+pub fn exported_files()
+    ensures { (exports : Json) (subpath : List ℕ) (conditions : List (List ℕ)) (target : Target) → exports_target exports subpath conditions ≡ Ok target → IsFile target }
 {}

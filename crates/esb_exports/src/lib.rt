@@ -11,7 +11,7 @@ mod target;
 mod units;
 
 pub use fault::TargetFault;
-pub use laws::{chosen_keys, matches};
+pub use laws::{chosen_keys, exported_files, matches};
 pub use outcome::Target;
 pub use target::{exports_of, imports_of};
 

@@ -323,4 +323,5 @@ fn refused_specifiers(rt: HostRuntime) -> Result<(), Fail> {
 fn laws_can_be_called() {
     chosen_keys();
     matches();
+    exported_files();
 }
