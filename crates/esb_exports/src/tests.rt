@@ -46,6 +46,7 @@ a longer key with a shorter part | {"./f/*.production.js": "./x/*.js", "./f/a/*"
 the longer key of two parts as long | {"./f/*": "./x/*", "./f/*.js": "./y/*.js"} | ./f/a.js | import | ./y/a.js
 the longer key first | {"./f/*.js": "./y/*.js", "./f/*": "./x/*"} | ./f/a.js | require | ./y/a.js
 a slash at the end of an exact key | {"./f/": "./x.js"} | ./f/ | import | ./x.js
+a name that stands twice | {"./a": "./b.js", "./a": "./c.js"} | ./a | import | ./b.js
 nothing for the star | {"./f/*": "./x/*.js"} | ./f/ | import | not exported
 nothing between the parts | {"./a*a": "./x/*.js"} | ./aa | import | not exported
 parts that share no letter | {"./a*a": "./x/*.js"} | ./aba | import | ./x/b.js
