@@ -3,3 +3,6 @@ pub mod Escapes
 pub mod Decimals
 pub mod Nodes
 pub mod Opened
+pub mod Closest
+pub mod Parts
+pub mod Files

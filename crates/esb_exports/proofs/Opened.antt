@@ -8,7 +8,6 @@ use Rattle.esb_json.specs.declared.value.Json.TheVariants as v
 use Rattle.esb_exports.specs.declared.fault.TargetFault.{TargetFault}
 use Rattle.esb_exports.specs.declared.fault.TargetFault.TheVariants as fault
 use Rattle.esb_exports.specs.declared.outcome.Target.{Target}
-use Rattle.esb_exports.specs.declared.outcome.Outcome.{Outcome}
 use Rattle.esb_exports.specs.declared.outcome.Outcome.TheVariants.{Undefined, BadConfig}
 use Rattle.esb_exports.specs.Targets.{has_dot, main_outcome, object_exports, keyed_outcome, open_exports, open_imports, Answers}
 

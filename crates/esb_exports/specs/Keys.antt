@@ -1,6 +1,6 @@
 -- Which member of an object a path takes: an exact key, or else the closest key with one star.
-use Rattle.std.specs.Prelude.{ℕ, ◌-◌, Bool, ◌==◌, ◌&&◌, ◌||◌, not, nat_lt, nat_le, nat_eq, if◌then◌else◌, List, [], length, take, drop, fold, find, Option, Some, None}
-use Rattle.std.specs.List.{list_any, starts_with, ends_with, before_first, after_first}
+use Rattle.std.specs.Prelude.{ℕ, ◌-◌, Bool, ◌==◌, ◌&&◌, ◌||◌, not, nat_lt, nat_le, nat_eq, if◌then◌else◌, List, [], length, take, drop, fold, find, Option, Some, None, IsTrue, ◌≡◌, false}
+use Rattle.std.specs.List.{list_any, All, Contains, starts_with, ends_with, before_first, after_first}
 use Rattle.std.specs.Str.{bytes_eq}
 use Rattle.esb_json.specs.declared.value.Json.{Json}
 
@@ -55,3 +55,15 @@ or_else (Some x) other = Some x
 -- the member that the path takes
 unfoldable pub chosen : List (List ℕ × Json) → List ℕ → Option (List ℕ × Json)
 chosen members path = or_else (exact members path) (closest members path)
+
+-- the path is the key, and has no star
+abbrev pub is_exact : List ℕ → List ℕ → Bool
+is_exact key path = not (has_star path) && bytes_eq key path
+
+-- The path takes this member, as Node tells it (PATTERN_KEY_COMPARE): an exact key goes before one with a star, and of these no
+-- key that the path fits is closer.
+pub record Takes (members : List (List ℕ × Json)) (path : List ℕ) (member : List ℕ × Json) : Type 0 where
+  pub stands : Contains members member
+  pub goes : IsTrue (is_exact member.0 path || fits member.0 path)
+  pub exact_first : IsTrue (list_any (λ other. is_exact other.0 path) members) → IsTrue (is_exact member.0 path)
+  pub closest : is_exact member.0 path ≡ false → All (λ other. IsTrue (fits other.0 path) → is_closer other.0 member.0 ≡ false) members

@@ -1,11 +1,10 @@
 -- What a target comes to, by cases on the JSON value (Node.js, PACKAGE_TARGET_RESOLVE).
-use Rattle.std.specs.Prelude.{ℕ, ◌+◌, ◌-◌, ◌*◌, Bool, true, false, ◌==◌, ◌&&◌, ◌||◌, not, nat_lt, nat_le, nat_eq, if◌then◌else◌, List, [], ◌∷◌, drop, map, fold, Option, Some, None, codes}
+use Rattle.std.specs.Prelude.{ℕ, ◌+◌, ◌-◌, ◌*◌, Bool, true, false, ◌==◌, ◌&&◌, ◌||◌, not, nat_lt, nat_le, nat_eq, if◌then◌else◌, List, [], ◌∷◌, drop, fold, Option, Some, None, codes}
 use Rattle.std.specs.List.{flat_map, list_any, list_all, starts_with}
 use Rattle.std.specs.Str.{bytes_eq}
 use Rattle.esb_json.specs.declared.value.Json.{Json}
 use Rattle.esb_json.specs.declared.value.Json.TheOpen.{Json-F}
 use Rattle.esb_json.specs.declared.value.Json.TheFolds.{fold-Json}
-use Rattle.esb_exports.specs.declared.outcome.Target.{Target}
 use Rattle.esb_exports.specs.declared.outcome.Target.TheVariants.{File, Bare}
 use Rattle.esb_exports.specs.declared.outcome.Outcome.{Outcome}
 use Rattle.esb_exports.specs.declared.outcome.Outcome.TheVariants.{Undefined, Nothing, Found, BadTarget, BadConfig, BadSpecifier}

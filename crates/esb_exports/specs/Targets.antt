@@ -1,5 +1,5 @@
 -- What a package's exports and imports lead to (Node.js, PACKAGE_EXPORTS_RESOLVE and PACKAGE_IMPORTS_RESOLVE).
-use Rattle.std.specs.Prelude.{◌≡◌, ℕ, Bool, true, false, ◌==◌, ◌||◌, not, nat_eq, if◌then◌else◌, List, [], ◌∷◌, slice_index, Option, Some, None, Result, Ok, Err, codes}
+use Rattle.std.specs.Prelude.{◌≡◌, ℕ, IsTrue, Bool, true, false, ◌==◌, ◌||◌, not, if◌then◌else◌, List, [], slice_index, Option, Some, None, Result, Ok, Err, codes}
 use Rattle.std.specs.List.{list_any}
 use Rattle.std.specs.Str.{bytes_eq}
 use Rattle.esb_json.specs.declared.value.Json.{Json, out-Json}
@@ -7,6 +7,7 @@ use Rattle.esb_json.specs.declared.value.Json.TheOpen.{Json-F}
 use Rattle.esb_exports.specs.declared.fault.TargetFault.{TargetFault}
 use Rattle.esb_exports.specs.declared.fault.TargetFault.TheVariants as fault
 use Rattle.esb_exports.specs.declared.outcome.Target.{Target}
+use Rattle.esb_exports.specs.declared.outcome.Target.TheVariants.{File, Bare}
 use Rattle.esb_exports.specs.declared.outcome.Outcome.{Outcome}
 use Rattle.esb_exports.specs.declared.outcome.Outcome.TheVariants.{Undefined, Nothing, Found, BadTarget, BadConfig, BadSpecifier}
 use Rattle.esb_exports.specs.Units.{units_of, active_names}
@@ -76,3 +77,8 @@ Answers (Err fault.NotExported) due = due ≡ Err fault.NotExported
 Answers (Err fault.BadTarget) due = due ≡ Err fault.BadTarget
 Answers (Err fault.BadConfig) due = due ≡ Err fault.BadConfig
 Answers (Err fault.BadSpecifier) due = due ≡ Err fault.BadSpecifier
+
+-- a file of the package, told from its folder, and no other package
+abbrev pub IsFile : Target → Type 0
+IsFile (File text) = IsTrue (begins text (codes "./"))
+IsFile (Bare text) = ⊥

@@ -127,8 +127,8 @@ fn open_exports(
 }
 
 /// What the subpath of a package leads to, which is `.` or begins with `./`, by the package's
-/// `exports` and the conditions that are active beside `default` (Node.js, "Modules: Packages",
-/// PACKAGE_EXPORTS_RESOLVE).
+/// `exports` and the conditions that are active beside `default` (Node.js, "Modules: ECMAScript
+/// modules", PACKAGE_EXPORTS_RESOLVE).
 ///
 /// # Errors
 ///
@@ -175,7 +175,7 @@ fn open_imports(
 }
 
 /// What a specifier that begins with `#` leads to, by the `imports` of the package that asks and
-/// the conditions that are active beside `default` (Node.js, "Modules: Packages",
+/// the conditions that are active beside `default` (Node.js, "Modules: ECMAScript modules",
 /// PACKAGE_IMPORTS_RESOLVE).
 ///
 /// # Errors

@@ -1,9 +1,8 @@
-use Rattle.std.proofs.Common.{◌≡◌, ◌∷◌, [], List, ℕ, map, drop, Bool, true, false, cond, refl, sym, ap, ◌∙◌}
+use Rattle.std.proofs.Common.{◌≡◌, List, ℕ, map, Bool, true, false, cond, sym, ap, ◌∙◌}
 use Rattle.std.specs.List.{list_any}
 use Rattle.std.proofs.lemmas.Result.{IfOk-weaker}
 use Rattle.esb_json.specs.declared.value.Json.{Json}
 use Rattle.esb_json.specs.declared.value.Json.TheVariants as v
-use Rattle.esb_exports.specs.declared.outcome.Outcome.{Outcome}
 use Rattle.esb_exports.specs.declared.outcome.Outcome.TheVariants.{BadConfig}
 use Rattle.esb_exports.specs.Outcomes.{is_array_index, members_outcome, target_outcome}
 use Rattle.esb_exports.proofs.Nodes.{outcome-Object, object-index}

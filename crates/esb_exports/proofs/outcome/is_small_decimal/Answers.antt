@@ -1,6 +1,6 @@
-use Rattle.std.proofs.Common.{◌≡◌, ◌+◌, ◌-◌, ◌*◌, ◌≤◌, false, get_or, take, sym, arith}
+use Rattle.std.proofs.Common.{◌≡◌, ◌+◌, ◌-◌, ◌*◌, false, get_or, sym, arith}
 use Rattle.std.proofs.lemmas.List.Sums.{fold_more}
-use Rattle.esb_exports.specs.Outcomes.{is_decimal, decimal_value}
+use Rattle.esb_exports.specs.Outcomes.{is_decimal}
 use Rattle.esb_exports.proofs.Decimals.{all_but_one, no_decimal, too_large, small, low_unit, high_unit}
 use Rattle.esb_exports.proofs.outcome.is_small_decimal.Goals as goal
 use Rattle.esb_exports.proofs.outcome.is_small_decimal.Goals.{then-unit-lt48-via-then-unit-lt48, then-unit-lt48-via-else-unit-lt48+then-unit-gt57}

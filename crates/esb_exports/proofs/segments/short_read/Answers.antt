@@ -1,4 +1,4 @@
-use Rattle.std.proofs.Common.{◌∷◌, length, ap, ◌∙◌, arith}
+use Rattle.std.proofs.Common.{length, ap, ◌∙◌, arith}
 use Rattle.esb_exports.specs.Segments.{unescaped}
 use Rattle.esb_exports.proofs.Escapes.{unescaped-short}
 use Rattle.esb_exports.proofs.segments.short_read.Goals as goal

@@ -1,4 +1,4 @@
-use Rattle.std.proofs.Common.{◌≡◌, List, ℕ, ap, ◌∙◌}
+use Rattle.std.proofs.Common.{ap, ◌∙◌}
 use Rattle.esb_json.specs.declared.value.Json.{out-Json}
 use Rattle.esb_exports.specs.Units.{units_of, active_names}
 use Rattle.esb_exports.specs.Targets.{answer_of, open_exports, exports_target}
