@@ -4,7 +4,9 @@ use Rattle.esb_token.specs.declared.kind.Kind.TheVariants as k
 use Rattle.esb_token.specs.declared.token.Token.{Token}
 use Rattle.esb_token.specs.declared.goal.Goal.{Goal}
 use Rattle.esb_token.specs.Tokens.{next, IsStringLiteral}
+use Rattle.esb_token.specs.Longest.{IsLongest}
 use Rattle.esb_token.proofs.TokenKinds.{text-is_literal, end-is_last}
+use Rattle.esb_token.proofs.Maximal.{next_longest}
 use Rattle.esb_lex.specs.declared.read.LexFault.{LexFault}
 use Rattle.esb_lex.specs.Answers.{answer, IsLast}
 
@@ -19,3 +21,7 @@ answered_literal contents at g (Err f) h = tt
 pub answered_last : (contents : List ℕ) (at : ℕ) (g : Goal) (r : Result Token LexFault) → at ≤ length contents → r ≡ answer (next contents at g) → IfOk r (λ token. token.kind ≡ k.End → IsLast contents token)
 answered_last contents at g (Ok t) within h = λ is. end-is_last contents at g t within (answer-ok (next contents at g) t (sym h)) is
 answered_last contents at g (Err f) within h = tt
+
+pub answered_longest : (contents : List ℕ) (at : ℕ) (g : Goal) (r : Result Token LexFault) → r ≡ answer (next contents at g) → IfOk r (λ token. IsLongest g contents token)
+answered_longest contents at g (Ok t) h = next_longest contents at g t (answer-ok (next contents at g) t (sym h))
+answered_longest contents at g (Err f) h = tt

@@ -1,0 +1,106 @@
+-- The token that is read is the longest.
+use Rattle.std.proofs.Common.{◌≡◌, ◌≢◌, ◌⊎◌, inl, inr, ℕ, ◌+◌, ◌-◌, ◌<◌, ◌≤◌, Bool, true, false, cond, not, ◌&&◌, ◌||◌, eqb, nat_lt, List, [], ◌∷◌, ◌++◌, length, drop, slice_index, Some, None, Ok, Err, refl, sym, ap, ◌∙◌, subst, arith, drop-drop, append_assoc}
+use Rattle.std.proofs.lemmas.Bool.{ne_eqb, or_cases, both_ways, and_parts, or_right, or_left, eqb-true, cases_Bool}
+use Rattle.esb_token.specs.declared.kind.Kind.{Kind}
+use Rattle.esb_token.specs.declared.kind.Kind.TheVariants as k
+use Rattle.esb_token.specs.declared.token.Token.{Token}
+use Rattle.esb_token.specs.declared.goal.Goal.{Goal}
+use Rattle.esb_token.specs.Characters.{is_digit}
+use Rattle.esb_token.specs.Gaps.{gap}
+use Rattle.esb_token.specs.Names.{Piece, identifier_start}
+use Rattle.esb_token.specs.Numbers.{number, numeric}
+use Rattle.esb_token.specs.Tokens.{token, skipped, next}
+use Rattle.esb_token.specs.Grammar.{AreDigits, IsInteger, IsPower, IsNumeric, IsToken}
+use Rattle.esb_token.specs.Longest.{NoneIsLonger, IsLongest}
+use Rattle.esb_token.proofs.Covering.{Covers, covers_by, starts_number, reads, name_covers, string_covers, whole_covers, head_covers, middle_covers, tail_covers, regexp_covers}
+use Rattle.esb_token.proofs.Marks.{punctuator_covers}
+use Rattle.esb_token.proofs.Figures.{first_digit, numeric_covers}
+use Rattle.esb_token.proofs.TokenKinds.{token_start, token_text, token_line, next_is, Made, found}
+
+-- ---- a number begins as one
+
+integer_starts : (w rest : List ℕ) → IsInteger w → starts_number (w ++ rest) ≡ true
+integer_starts w rest (inl e) = subst (λ x. starts_number (x ++ rest) ≡ true) (sym e) refl
+integer_starts [] rest (inr h) = absurd (omega (arith, h.0))
+integer_starts (d ∷ ds) rest (inr h) = or_left _ _ (first_digit is_digit d ds h.1)
+
+point_starts : (ds rest : List ℕ) → 0 < length ds → AreDigits is_digit ds → starts_number (46 ∷ (ds ++ rest)) ≡ true
+point_starts [] rest some h = absurd (omega (arith, some))
+point_starts (d ∷ ds) rest some h = first_digit is_digit d ds h
+
+numeric_starts : (kind : Kind) (bytes after : List ℕ) → IsNumeric kind bytes → starts_number (bytes ++ after) ≡ true
+numeric_starts kind bytes after (IsNumeric.whole w e h exp) = ap starts_number (append_assoc w e after) ∙ integer_starts w (e ++ after) h
+numeric_starts kind bytes after (IsNumeric.fraction w ds e h digits exp) = ap starts_number (append_assoc w (46 ∷ (ds ++ e)) after) ∙ integer_starts w (46 ∷ ((ds ++ e) ++ after)) h
+numeric_starts kind bytes after (IsNumeric.point ds e some digits exp) = ap (λ x. starts_number (46 ∷ x)) (append_assoc ds e after) ∙ point_starts ds (e ++ after) some digits
+numeric_starts kind bytes after (IsNumeric.big w h) = ap starts_number (append_assoc w (110 ∷ []) after) ∙ integer_starts w (110 ∷ after) h
+numeric_starts kind bytes after (IsNumeric.based letter ds some h) = refl
+numeric_starts kind bytes after (IsNumeric.based_big letter ds some h) = refl
+
+number_covers : (g : Goal) (kind : Kind) (bytes after : List ℕ) → IsNumeric kind bytes → Covers (reads g (bytes ++ after)) (length bytes)
+number_covers g kind bytes after h =
+    covers_by _ (numeric (bytes ++ after)) _ (ap (λ t. cond t (Some (numeric (bytes ++ after))) (token g (bytes ++ after))) (numeric_starts kind bytes after h)) (numeric_covers kind bytes after h)
+
+-- what is read has at least the bytes of each token at the front
+pub covers : (g : Goal) (kind : Kind) (bytes after : List ℕ) → IsToken g kind bytes after → Covers (reads g (bytes ++ after)) (length bytes)
+covers g kind bytes after (IsToken.punctuator _ _ _ h may under) = punctuator_covers g kind bytes after h may under
+covers g kind bytes after (IsToken.name start parts _ h more) = name_covers g start parts after h more
+covers g kind bytes after (IsToken.number _ _ _ h) = number_covers g kind bytes after h
+covers g kind bytes after (IsToken.string quote pieces _ is h) = string_covers g quote pieces after is h
+covers g kind bytes after (IsToken.template_whole pieces _ h) = whole_covers g pieces after h
+covers g kind bytes after (IsToken.template_head pieces _ h) = head_covers g pieces after h
+covers g kind bytes after (IsToken.template_middle pieces _ is h) = middle_covers g pieces after is h
+covers g kind bytes after (IsToken.template_tail pieces _ is h) = tail_covers g pieces after is h
+covers g kind bytes after (IsToken.regular_expression body flags _ is some star h more) = regexp_covers g body flags after is some star h more
+
+-- ---- from what is read to the token
+
+is_figure : ℕ → Bool
+is_figure b = is_digit b || eqb b 46
+
+figure_first : (b : ℕ) (rest : List ℕ) → starts_number (b ∷ rest) ≡ true → is_figure b ≡ true
+unfolding is_figure
+figure_first b rest h = elim (or_cases (is_digit b) _ h) [ inl e ↦ or_left _ _ e | inr e ↦ or_right (is_digit b) _ (and_parts _ _ e).0 ]
+
+differs : (b c : ℕ) → is_figure b ≡ true → is_figure c ≡ false → eqb b c ≡ false
+differs b c h none = ne_eqb b c (λ e. both_ways (is_figure c) none (subst (λ x. is_figure x ≡ true) e h))
+
+token_number : (g : Goal) (text : List ℕ) → starts_number text ≡ true → token g text ≡ number text
+unfolding token is_figure
+token_number g [] h = cc
+token_number g (b ∷ rest) h =
+    let f = figure_first b rest h in
+    rw (differs b 47 f refl, differs b 125 f refl, differs b 96 f refl, differs b 34 f refl, differs b 39 f refl, h) refl
+
+number_some : (text : List ℕ) (p : Kind × ℕ) → number text ≡ Some p → numeric text ≡ p
+unfolding number
+number_some text p h = go (is_digit (slice_index (drop (numeric text).1 text) 0) || nat_lt 0 (identifier_start (drop (numeric text).1 text))) h
+  where
+    go : (t : Bool) → cond t None (Some (numeric text)) ≡ Some p → numeric text ≡ p
+    go true e = cc
+    go false e = cc
+
+token_reads : (g : Goal) (text : List ℕ) (p : Kind × ℕ) → token g text ≡ Some p → reads g text ≡ Some p
+token_reads g text p h = go (starts_number text) refl
+  where
+    go : (t : Bool) → starts_number text ≡ t → cond t (Some (numeric text)) (token g text) ≡ Some p
+    go true is = ap Some (number_some text p (sym (token_number g text is) ∙ h))
+    go false is = h
+
+same_taken : (p q : Kind × ℕ) → Some p ≡ Some q → p ≡ q
+same_taken p q e = cc
+
+none_is_longer : (g : Goal) (text : List ℕ) (p : Kind × ℕ) → token g text ≡ Some p → NoneIsLonger g text p.1
+none_is_longer g text p h kind bytes after is stands =
+    let c = covers g kind bytes after stands in
+    let same : c.taken ≡ p = same_taken _ _ (sym c.is ∙ ap (reads g) (sym is) ∙ token_reads g text p h) in
+    subst (λ (x : Kind × ℕ). length bytes ≤ x.1) same c.long
+
+pub next_longest : (contents : List ℕ) (at : ℕ) (g : Goal) (t : Token) → next contents at g ≡ Ok t → IsLongest g contents t
+next_longest contents at g t h =
+    let f = found contents at g t h in
+    let from = at + skipped contents at in
+    let moved : token_text contents at ≡ drop (token_start contents at) contents = drop-drop (gap (drop from contents)) from contents in
+    subst (λ (x : Token). IsLongest g contents x) (sym f.2)
+    (let size : token_start contents at + f.0.1 - token_start contents at ≡ f.0.1 = omega arith in
+    let longest : NoneIsLonger g (drop (token_start contents at) contents) f.0.1 = subst (λ x. NoneIsLonger g x f.0.1) moved (none_is_longer g (token_text contents at) f.0 f.1) in
+    subst (λ n. NoneIsLonger g (drop (token_start contents at) contents) n) (sym size) longest)
