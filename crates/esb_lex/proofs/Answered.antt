@@ -1,14 +1,15 @@
 -- What the kind of an answered token tells.
-use Rattle.std.proofs.Common.{◌≡◌, ℕ, ◌≤◌, List, length, Result, Ok, Err, IfOk, sym}
+use Rattle.std.proofs.Common.{◌≡◌, ℕ, ◌≤◌, List, length, Result, Ok, Err, IfOk, IfErr, sym}
 use Rattle.esb_token.specs.declared.kind.Kind.TheVariants as k
 use Rattle.esb_token.specs.declared.token.Token.{Token}
 use Rattle.esb_token.specs.declared.goal.Goal.{Goal}
 use Rattle.esb_token.specs.Tokens.{next, IsStringLiteral}
-use Rattle.esb_token.specs.Longest.{IsLongest}
+use Rattle.esb_token.specs.Longest.{IsLongest, IsNoToken}
 use Rattle.esb_token.proofs.TokenKinds.{text-is_literal, end-is_last}
-use Rattle.esb_token.proofs.Maximal.{next_longest}
+use Rattle.esb_token.proofs.Maximal.{next_longest, next_refused}
 use Rattle.esb_lex.specs.declared.read.LexFault.{LexFault}
-use Rattle.esb_lex.specs.Answers.{answer, IsLast}
+use Rattle.esb_lex.specs.declared.read.LexFault.TheVariants.{BadToken}
+use Rattle.esb_lex.specs.Answers.{answer, IsLast, IsRefusal}
 
 answer-ok : (x : Result Token ℕ) (t : Token) → answer x ≡ Ok t → x ≡ Ok t
 answer-ok (Ok u) t h = cc
@@ -25,3 +26,11 @@ answered_last contents at g (Err f) within h = tt
 pub answered_longest : (contents : List ℕ) (at : ℕ) (g : Goal) (r : Result Token LexFault) → r ≡ answer (next contents at g) → IfOk r (λ token. IsLongest g contents token)
 answered_longest contents at g (Ok t) h = next_longest contents at g t (answer-ok (next contents at g) t (sym h))
 answered_longest contents at g (Err f) h = tt
+
+answer-err : (x : Result Token ℕ) (place : ℕ) → answer x ≡ Err (BadToken place) → x ≡ Err place
+answer-err (Ok t) place h = cc
+answer-err (Err at) place h = cc
+
+pub answered_refusal : (contents : List ℕ) (at : ℕ) (g : Goal) (r : Result Token LexFault) → r ≡ answer (next contents at g) → IfErr r (IsRefusal g contents)
+answered_refusal contents at g (Ok t) h = tt
+answered_refusal contents at g (Err (BadToken place)) h = next_refused contents at g place (answer-err (next contents at g) place (sym h))

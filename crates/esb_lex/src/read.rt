@@ -3,7 +3,7 @@
 ghost use Rattle.std.specs.Prelude.{◌≡◌, ◌≢◌, ◌+◌, ◌^◌, ◌<◌, ◌≤◌, length, IfSome, IfOk, IfErr};
 ghost use Rattle.esb_token.specs.Tokens as spec;
 ghost use Rattle.esb_token.specs.Longest.{IsLongest};
-ghost use Rattle.esb_lex.specs.Answers.{answer, IsWithin, IsPlace, IsLast};
+ghost use Rattle.esb_lex.specs.Answers.{answer, IsWithin, IsPlace, IsLast, IsRefusal};
 ghost use Rattle.esb_token.specs.declared.kind.Kind.TheVariants as k;
 ghost use Rattle.esb_lex.specs.Pieces.{IsPiece};
 
@@ -134,6 +134,7 @@ pub fn next(contents: &Text, at: usize, goal: Goal) -> Result<Token, LexFault>
     requires { at ≤ length contents.now }
     ensures value { result ≡ answer (spec.next contents.now at goal) }
     ensures longest { IfOk result (IsLongest goal contents.now) }
+    ensures refused { IfErr result (IsRefusal goal contents.now) }
     ensures within { IfOk result (IsWithin at (length contents.now)) }
     ensures progress { IfOk result (λ token. token.kind ≢ k.End → token.start < token.end) }
     ensures place { IfErr result (IsPlace at (length contents.now)) }

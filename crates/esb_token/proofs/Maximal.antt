@@ -1,5 +1,5 @@
 -- The token that is read is the longest.
-use Rattle.std.proofs.Common.{◌≡◌, ◌≢◌, ◌⊎◌, inl, inr, ℕ, ◌+◌, ◌-◌, ◌<◌, ◌≤◌, Bool, true, false, cond, not, ◌&&◌, ◌||◌, eqb, nat_lt, List, [], ◌∷◌, ◌++◌, length, drop, slice_index, Some, None, Ok, Err, refl, sym, ap, ◌∙◌, subst, arith, drop-drop, append_assoc}
+use Rattle.std.proofs.Common.{◌≡◌, ◌≢◌, ◌⊎◌, inl, inr, ℕ, ◌+◌, ◌-◌, ◌<◌, ◌≤◌, Bool, true, false, cond, not, ◌&&◌, ◌||◌, eqb, nat_lt, List, [], ◌∷◌, ◌++◌, length, drop, slice_index, Some, None, Ok, Err, Result, refl, sym, ap, ◌∙◌, subst, arith, drop-drop, append_assoc, length-drop}
 use Rattle.std.proofs.lemmas.Bool.{ne_eqb, or_cases, both_ways, and_parts, or_right, or_left, eqb-true, cases_Bool}
 use Rattle.esb_token.specs.declared.kind.Kind.{Kind}
 use Rattle.esb_token.specs.declared.kind.Kind.TheVariants as k
@@ -9,9 +9,9 @@ use Rattle.esb_token.specs.Characters.{is_digit}
 use Rattle.esb_token.specs.Gaps.{gap}
 use Rattle.esb_token.specs.Names.{Piece, identifier_start}
 use Rattle.esb_token.specs.Numbers.{number, numeric}
-use Rattle.esb_token.specs.Tokens.{token, skipped, next}
-use Rattle.esb_token.specs.Grammar.{AreDigits, IsInteger, IsPower, IsNumeric, IsToken}
-use Rattle.esb_token.specs.Longest.{NoneIsLonger, IsLongest}
+use Rattle.esb_token.specs.Tokens.{token, placed, skipped, next}
+use Rattle.esb_token.specs.Grammar.{AreDigits, IsInteger, IsPower, IsNumeric, IsToken, ends_before}
+use Rattle.esb_token.specs.Longest.{NoneIsLonger, IsLongest, HasNumberTooLong, IsNoToken}
 use Rattle.esb_token.proofs.Covering.{Covers, covers_by, starts_number, reads, name_covers, string_covers, whole_covers, head_covers, middle_covers, tail_covers, regexp_covers}
 use Rattle.esb_token.proofs.Marks.{punctuator_covers}
 use Rattle.esb_token.proofs.Figures.{first_digit, numeric_covers}
@@ -104,3 +104,43 @@ next_longest contents at g t h =
     (let size : token_start contents at + f.0.1 - token_start contents at ≡ f.0.1 = omega arith in
     let longest : NoneIsLonger g (drop (token_start contents at) contents) f.0.1 = subst (λ x. NoneIsLonger g x f.0.1) moved (none_is_longer g (token_text contents at) f.0 f.1) in
     subst (λ n. NoneIsLonger g (drop (token_start contents at) contents) n) (sym size) longest)
+
+-- ---- where no token is read
+
+number_none : (text : List ℕ) → number text ≡ None → ends_before (drop (numeric text).1 text) ≡ false
+unfolding number
+number_none text h = go (is_digit (slice_index (drop (numeric text).1 text) 0) || nat_lt 0 (identifier_start (drop (numeric text).1 text))) h
+  where
+    go : (t : Bool) → cond t None (Some (numeric text)) ≡ None → not t ≡ false
+    go true e = refl
+    go false e = cc
+
+not_at_end : (g : Goal) (text : List ℕ) → token g text ≡ None → 0 < length text
+unfolding token
+not_at_end g [] h = cc
+not_at_end g (b ∷ rest) h = omega arith
+
+no_token : (g : Goal) (text : List ℕ) → token g text ≡ None → (kind : Kind) (bytes after : List ℕ) → text ≡ bytes ++ after → IsToken g kind bytes after
+    → HasNumberTooLong text × (length bytes ≤ (numeric text).1)
+no_token g text h kind bytes after is stands =
+    let c = covers g kind bytes after stands in
+    go c.taken c.long (starts_number text) refl (ap (reads g) is ∙ c.is)
+  where
+    go : (p : Kind × ℕ) → length bytes ≤ p.1 → (t : Bool) → starts_number text ≡ t → cond t (Some (numeric text)) (token g text) ≡ Some p → HasNumberTooLong text × (length bytes ≤ (numeric text).1)
+    go p l true starts e =
+        let same : p ≡ numeric text = sym (same_taken _ _ e) in
+        ((starts, number_none text (sym (token_number g text starts) ∙ h)), subst (λ (x : Kind × ℕ). length bytes ≤ x.1) same l)
+    go p l false starts e = let bad : None ≡ Some p = sym h ∙ e in cc
+
+unplaced : (start : ℕ) (line : Bool) (piece : Piece) (at : ℕ) → placed start line piece ≡ Err at → (start ≡ at) × (piece ≡ None)
+unplaced start line None at h = (cc, refl)
+unplaced start line (Some p) at h = cc
+
+pub next_refused : (contents : List ℕ) (at : ℕ) (g : Goal) (place : ℕ) → next contents at g ≡ Err place → IsNoToken g contents place
+next_refused contents at g place h =
+    let from = at + skipped contents at in
+    let u = unplaced (token_start contents at) (token_line contents at) (token g (token_text contents at)) place (sym (next_is contents at g) ∙ h) in
+    let moved : token_text contents at ≡ drop place contents = drop-drop (gap (drop from contents)) from contents ∙ ap (λ n. drop n contents) u.0 in
+    let none : token g (drop place contents) ≡ None = ap (token g) (sym moved) ∙ u.1 in
+    let some = not_at_end g (drop place contents) none in
+    (omega (arith, some, length-drop place contents), no_token g (drop place contents) none)

@@ -1,6 +1,6 @@
 use Rattle.std.proofs.Common.{rules}
 use Rattle.esb_token.specs.Tokens.{next}
-use Rattle.esb_lex.proofs.Answered.{answered_literal, answered_last, answered_longest}
+use Rattle.esb_lex.proofs.Answered.{answered_literal, answered_last, answered_longest, answered_refusal}
 use Rattle.esb_lex.proofs.read.next.Goals as goal
 
 pub returns-clause-literal : goal.returns-clause-literal
@@ -14,3 +14,7 @@ returns-clause-last c = answered_last c.args.contents.now c.args.at c.args.goal 
 pub returns-clause-longest : goal.returns-clause-longest
 unfolding next
 returns-clause-longest c = answered_longest c.args.contents.now c.args.at c.args.goal _ (search rules)
+
+pub returns-clause-refused : goal.returns-clause-refused
+unfolding next
+returns-clause-refused c = answered_refusal c.args.contents.now c.args.at c.args.goal _ (search rules)
