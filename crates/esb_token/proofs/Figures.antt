@@ -17,7 +17,7 @@ use Rattle.esb_token.proofs.Marks.{Long, long, either, first}
 digits_more : (digit : ℕ → Bool) (ds rest : List ℕ) → AreDigits digit ds → prefix_len digit (ds ++ rest) ≡ length ds + prefix_len digit rest
 digits_more digit ds rest h = prefix_len-append digit ds rest ∙ cond-true _ _ _ (eq-eqb _ _ h)
 
-digits_end : (digit : ℕ → Bool) (b : ℕ) (rest : List ℕ) → digit b ≡ false → prefix_len digit (b ∷ rest) ≡ 0
+pub digits_end : (digit : ℕ → Bool) (b : ℕ) (rest : List ℕ) → digit b ≡ false → prefix_len digit (b ∷ rest) ≡ 0
 digits_end digit b rest h = rw (h) refl
 
 pub first_digit : (digit : ℕ → Bool) (d : ℕ) (ds : List ℕ) → AreDigits digit (d ∷ ds) → digit d ≡ true
@@ -35,7 +35,7 @@ is_power_letter letter = eqb letter 101 || eqb letter 69
 
 -- ---- exponents
 
-exponent_drop : (text : List ℕ) (at : ℕ) → exponent text at ≡ exponent (drop at text) 0
+pub exponent_drop : (text : List ℕ) (at : ℕ) → exponent text at ≡ exponent (drop at text) 0
 unfolding exponent digits_at
 exponent_drop text at =
     let zeroth : slice_index (drop at text) 0 ≡ slice_index text at = get_or-drop at text 0 0 ∙ ap (slice_index text) (add-zero at) in
@@ -298,7 +298,7 @@ each_letter P step letter d h = go (eqb letter 120) (eqb letter 88) (eqb letter 
     go false false false false false true i j l m n o q = at 66 o (step is_binary_digit 66 (λ c. refl) refl (λ rest. refl))
     go false false false false false false i j l m n o q = cc
 
-same_digits : (digit other : ℕ → Bool) → ((c : ℕ) → digit c ≡ other c) → (ds : List ℕ) → prefix_len digit ds ≡ prefix_len other ds
+pub same_digits : (digit other : ℕ → Bool) → ((c : ℕ) → digit c ≡ other c) → (ds : List ℕ) → prefix_len digit ds ≡ prefix_len other ds
 same_digits digit other same [] = refl
 same_digits digit other same (d ∷ ds) = rw (same d, same_digits digit other same ds) refl
 

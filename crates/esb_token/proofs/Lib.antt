@@ -7,3 +7,7 @@ pub mod Covering
 pub mod Marks
 pub mod Figures
 pub mod Maximal
+pub mod Sound
+pub mod SoundMarks
+pub mod SoundFigures
+pub mod Spelling

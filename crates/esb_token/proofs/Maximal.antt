@@ -1,5 +1,6 @@
 -- The token that is read is the longest.
 use Rattle.std.proofs.Common.{◌≡◌, ◌≢◌, ◌⊎◌, inl, inr, ℕ, ◌+◌, ◌-◌, ◌<◌, ◌≤◌, Bool, true, false, cond, not, ◌&&◌, ◌||◌, eqb, nat_lt, List, [], ◌∷◌, ◌++◌, length, drop, slice_index, Some, None, Ok, Err, Result, refl, sym, ap, ◌∙◌, subst, arith, drop-drop, append_assoc, length-drop}
+use Rattle.std.proofs.lemmas.List.{drop_at}
 use Rattle.std.proofs.lemmas.Bool.{ne_eqb, or_cases, both_ways, and_parts, or_right, or_left, eqb-true, cases_Bool}
 use Rattle.esb_token.specs.declared.kind.Kind.{Kind}
 use Rattle.esb_token.specs.declared.kind.Kind.TheVariants as k
@@ -11,10 +12,13 @@ use Rattle.esb_token.specs.Names.{Piece, identifier_start}
 use Rattle.esb_token.specs.Numbers.{number, numeric}
 use Rattle.esb_token.specs.Tokens.{token, placed, skipped, next}
 use Rattle.esb_token.specs.Grammar.{AreDigits, IsInteger, IsPower, IsNumeric, IsToken, ends_before}
-use Rattle.esb_token.specs.Longest.{NoneIsLonger, IsLongest, HasNumberTooLong, IsNoToken}
+use Rattle.esb_token.specs.Longest.{NoneIsLonger, IsLongest, IsNoToken, IsTokenAt}
 use Rattle.esb_token.proofs.Covering.{Covers, covers_by, starts_number, reads, name_covers, string_covers, whole_covers, head_covers, middle_covers, tail_covers, regexp_covers}
 use Rattle.esb_token.proofs.Marks.{punctuator_covers}
 use Rattle.esb_token.proofs.Figures.{first_digit, numeric_covers}
+use Rattle.esb_token.proofs.SoundFigures.{Number, numeric_number}
+use Rattle.esb_token.proofs.Spelling.{token_stands}
+use Rattle.esb_token.proofs.Sound.{Stands, AllStand}
 use Rattle.esb_token.proofs.TokenKinds.{token_start, token_text, token_line, next_is, Made, found}
 
 -- ---- a number begins as one
@@ -120,16 +124,25 @@ unfolding token
 not_at_end g [] h = cc
 not_at_end g (b ∷ rest) h = omega arith
 
-no_token : (g : Goal) (text : List ℕ) → token g text ≡ None → (kind : Kind) (bytes after : List ℕ) → text ≡ bytes ++ after → IsToken g kind bytes after
-    → HasNumberTooLong text × (length bytes ≤ (numeric text).1)
-no_token g text h kind bytes after is stands =
+-- the literal at the front is a number
+literal_of : (text : List ℕ) → starts_number text ≡ true → Number text (numeric text)
+literal_of [] h = cc
+literal_of (b ∷ rest) h = numeric_number b rest h
+
+no_token : (g : Goal) (text : List ℕ) → token g text ≡ None → (kind : Kind) (bytes after : List ℕ) → text ≡ bytes ++ after → IsToken g kind bytes after → NoneIsLonger g text (length bytes)
+    → (starts_number text ≡ true) × (ends_before after ≡ false)
+no_token g text h kind bytes after is stands longest =
     let c = covers g kind bytes after stands in
     go c.taken c.long (starts_number text) refl (ap (reads g) is ∙ c.is)
   where
-    go : (p : Kind × ℕ) → length bytes ≤ p.1 → (t : Bool) → starts_number text ≡ t → cond t (Some (numeric text)) (token g text) ≡ Some p → HasNumberTooLong text × (length bytes ≤ (numeric text).1)
+    go : (p : Kind × ℕ) → length bytes ≤ p.1 → (t : Bool) → starts_number text ≡ t → cond t (Some (numeric text)) (token g text) ≡ Some p → (starts_number text ≡ true) × (ends_before after ≡ false)
     go p l true starts e =
-        let same : p ≡ numeric text = sym (same_taken _ _ e) in
-        ((starts, number_none text (sym (token_number g text starts) ∙ h)), subst (λ (x : Kind × ℕ). length bytes ≤ x.1) same l)
+        let same : length bytes ≤ (numeric text).1 = subst (λ (x : Kind × ℕ). length bytes ≤ x.1) (sym (same_taken _ _ e)) l in
+        let n = literal_of text starts in
+        let most = longest (numeric text).0 n.bytes n.after n.split (IsToken.number (numeric text).0 n.bytes n.after n.numeric) in
+        let all : length bytes ≡ (numeric text).1 = omega (arith, same, most, n.size) in
+        let behind : drop (numeric text).1 text ≡ after = ap (drop (numeric text).1) is ∙ drop_at bytes after _ all in
+        (starts, ap ends_before (sym behind) ∙ number_none text (sym (token_number g text starts) ∙ h))
     go p l false starts e = let bad : None ≡ Some p = sym h ∙ e in cc
 
 unplaced : (start : ℕ) (line : Bool) (piece : Piece) (at : ℕ) → placed start line piece ≡ Err at → (start ≡ at) × (piece ≡ None)
@@ -144,3 +157,45 @@ next_refused contents at g place h =
     let none : token g (drop place contents) ≡ None = ap (token g) (sym moved) ∙ u.1 in
     let some = not_at_end g (drop place contents) none in
     (omega (arith, some, length-drop place contents), no_token g (drop place contents) none)
+
+-- ---- the token that is read is one
+
+number_ends : (text : List ℕ) (p : Kind × ℕ) → number text ≡ Some p → ends_before (drop (numeric text).1 text) ≡ true
+unfolding number
+number_ends text p h = go (is_digit (slice_index (drop (numeric text).1 text) 0) || nat_lt 0 (identifier_start (drop (numeric text).1 text))) h
+  where
+    go : (t : Bool) → cond t None (Some (numeric text)) ≡ Some p → not t ≡ true
+    go true e = cc
+    go false e = refl
+
+end_is : (g : Goal) (p : Kind × ℕ) → token g [] ≡ Some p → p.0 ≡ k.End
+unfolding token
+end_is g p h = cc
+
+spelled : (g : Goal) (text : List ℕ) (p : Kind × ℕ) → token g text ≡ Some p → p.0 ≢ k.End → Stands g text p
+unfolding AllStand
+spelled g [] p h some = absurd (some (end_is g p h))
+spelled g (b ∷ rest) p h some = token_stands g b rest p h
+
+ends_behind : (g : Goal) (text : List ℕ) (p : Kind × ℕ) → token g text ≡ Some p → (bytes after : List ℕ) → text ≡ bytes ++ after → length bytes ≡ p.1 → starts_number text ≡ true → ends_before after ≡ true
+ends_behind g text p h bytes after is size starts =
+    let number_is : number text ≡ Some p = sym (token_number g text starts) ∙ h in
+    let same : (numeric text).1 ≡ p.1 = ap (λ (x : Kind × ℕ). x.1) (number_some text p number_is) in
+    let behind : drop (numeric text).1 text ≡ after = ap (drop (numeric text).1) is ∙ drop_at bytes after _ (size ∙ sym same) in
+    ap ends_before (sym behind) ∙ number_ends text p number_is
+
+pub next_spelled : (contents : List ℕ) (at : ℕ) (g : Goal) (t : Token) → next contents at g ≡ Ok t → t.kind ≢ k.End → IsTokenAt g contents t
+next_spelled contents at g t h some =
+    let f = found contents at g t h in
+    let from = at + skipped contents at in
+    let kind_is : t.kind ≡ f.0.0 = ap (λ (x : Token). x.kind) f.2 in
+    let s = spelled g (token_text contents at) f.0 f.1 (λ e. some (kind_is ∙ e)) in
+    let moved : token_text contents at ≡ drop (token_start contents at) contents = drop-drop (gap (drop from contents)) from contents in
+    subst (λ (x : Token). IsTokenAt g contents x) (sym f.2) (
+      s.bytes,
+      s.after,
+      sym moved ∙ s.split,
+      (let size = s.size in omega (arith, size)),
+      s.stands,
+      λ starts. ends_behind g (token_text contents at) f.0 f.1 s.bytes s.after s.split s.size (ap starts_number moved ∙ starts),
+    )

@@ -5,7 +5,6 @@ use Rattle.esb_token.specs.declared.token.Token.{Token}
 use Rattle.esb_token.specs.declared.goal.Goal.{Goal}
 use Rattle.esb_token.specs.Grammar.{IsToken, ends_before}
 use Rattle.esb_token.specs.Characters.{is_digit}
-use Rattle.esb_token.specs.Numbers.{numeric}
 
 -- no token of a goal at the front of a text has more bytes than these
 abbrev pub NoneIsLonger : Goal → List ℕ → ℕ → Type 0
@@ -19,13 +18,18 @@ IsLongest g contents token = NoneIsLonger g (drop token.start contents) (token.e
 abbrev pub begins_number : List ℕ → Bool
 begins_number text = is_digit (slice_index text 0) || (slice_index text 0 == 46 && is_digit (slice_index text 1))
 
--- a number is at the front, and a digit or the start of a name stands directly behind its longest literal
-abbrev pub HasNumberTooLong : List ℕ → Type 0
-HasNumberTooLong text = (begins_number text ≡ true) × (ends_before (drop (numeric text).1 text) ≡ false)
-
--- Neither the end nor a token stands at a place: if bytes are a token there, they are of a number that may not end where its longest literal does.
+-- Neither the end nor a token stands at a place: the longest token there, if there is one, is a number that may not stand before what follows it.
 abbrev pub IsNoToken : Goal → List ℕ → ℕ → Type 0
 IsNoToken g contents at =
     (at < length contents)
-    × ((kind : Kind) (bytes after : List ℕ) → drop at contents ≡ bytes ++ after → IsToken g kind bytes after
-    → HasNumberTooLong (drop at contents) × (length bytes ≤ (numeric (drop at contents)).1))
+    × ((kind : Kind) (bytes after : List ℕ) → drop at contents ≡ bytes ++ after → IsToken g kind bytes after → NoneIsLonger g (drop at contents) (length bytes)
+    → (begins_number (drop at contents) ≡ true) × (ends_before after ≡ false))
+
+-- The bytes of a token are one of its kind, and where a number begins there, it may stand before what follows it.
+abbrev pub IsTokenAt : Goal → List ℕ → Token → Type 0
+IsTokenAt g contents token =
+    (bytes : List ℕ) × (after : List ℕ)
+    × (drop token.start contents ≡ bytes ++ after)
+    × (length bytes ≡ token.end - token.start)
+    × IsToken g token.kind bytes after
+    × (begins_number (drop token.start contents) ≡ true → ends_before after ≡ true)

@@ -1,6 +1,6 @@
 use Rattle.std.proofs.Common.{rules}
 use Rattle.esb_token.specs.Tokens.{next}
-use Rattle.esb_lex.proofs.Answered.{answered_literal, answered_last, answered_longest, answered_refusal}
+use Rattle.esb_lex.proofs.Answered.{answered_literal, answered_last, answered_longest, answered_refusal, answered_spelled}
 use Rattle.esb_lex.proofs.read.next.Goals as goal
 
 pub returns-clause-literal : goal.returns-clause-literal
@@ -18,3 +18,7 @@ returns-clause-longest c = answered_longest c.args.contents.now c.args.at c.args
 pub returns-clause-refused : goal.returns-clause-refused
 unfolding next
 returns-clause-refused c = answered_refusal c.args.contents.now c.args.at c.args.goal _ (search rules)
+
+pub returns-clause-spelled : goal.returns-clause-spelled
+unfolding next
+returns-clause-spelled c = answered_spelled c.args.contents.now c.args.at c.args.goal _ (search rules)
