@@ -4,7 +4,7 @@ use Rattle.esb_token.specs.declared.kind.Kind.TheVariants as k
 use Rattle.esb_token.specs.declared.token.Token.{Token}
 use Rattle.esb_token.specs.declared.goal.Goal.{Goal}
 use Rattle.esb_token.specs.Tokens.{next, IsStringLiteral}
-use Rattle.esb_token.specs.Longest.{IsLongest, IsNoToken, IsTokenAt}
+use Rattle.esb_token.specs.Longest.{IsLongest, IsTokenAt}
 use Rattle.esb_token.proofs.TokenKinds.{text-is_literal, end-is_last}
 use Rattle.esb_token.proofs.Maximal.{next_longest, next_refused, next_spelled}
 use Rattle.esb_lex.specs.declared.read.LexFault.{LexFault}

@@ -1,5 +1,5 @@
 -- Names, strings, templates and regular expressions: what the lexer takes has at least the bytes of each token at the front.
-use Rattle.std.proofs.Common.{◌≡◌, ◌≢◌, ◌⊎◌, inl, inr, ℕ, zero, suc, ◌+◌, ◌-◌, ◌<◌, ◌≤◌, Bool, true, false, cond, not, ◌&&◌, ◌||◌, eqb, nat_lt, nat_le, List, [], ◌∷◌, ◌++◌, length, drop, slice_index, Some, None, refl, sym, ap, ◌∙◌, subst, arith, append_assoc, length-append}
+use Rattle.std.proofs.Common.{◌≡◌, ◌≢◌, inl, inr, ℕ, ◌+◌, ◌<◌, ◌≤◌, Bool, true, false, cond, ◌&&◌, ◌||◌, eqb, nat_lt, nat_le, List, [], ◌∷◌, ◌++◌, length, drop, slice_index, Some, None, refl, sym, ap, ◌∙◌, subst, arith, append_assoc, length-append}
 use Rattle.std.proofs.lemmas.List.{drop_at, get_or_at, get_or_append_left}
 use Rattle.std.proofs.lemmas.Bool.{ne_eqb, eqb-true, eq-eqb, or_cases, or_parts, both_ways, or_from, cond-false, cond-true, leb-false, lt-ltb, true_from_ne_false, and_from}
 use Rattle.std.proofs.lemmas.Bool.Decides.{nat_tests}
@@ -8,14 +8,14 @@ use Rattle.esb_token.specs.declared.kind.Kind.TheVariants as k
 use Rattle.esb_token.specs.declared.goal.Goal.{Goal}
 use Rattle.esb_token.specs.declared.goal.Goal.TheVariants as goal
 use Rattle.esb_token.specs.Runs.{run}
-use Rattle.esb_token.specs.Characters.{code_point, character, is_digit, is_letter, is_identifier_start}
-use Rattle.esb_token.specs.Names.{Piece, name, reserved, word_kind, identifier_start, identifier_part, identifier_character}
+use Rattle.esb_token.specs.Characters.{code_point, is_digit, is_letter, is_identifier_start}
+use Rattle.esb_token.specs.Names.{Piece, name, identifier_start, identifier_part, identifier_character}
 use Rattle.esb_token.specs.Numbers.{numeric}
 use Rattle.esb_token.specs.Strings.{string, string_piece}
 use Rattle.esb_token.specs.Templates.{template, template_piece}
 use Rattle.esb_token.specs.RegExps.{regular_expression, body_piece}
 use Rattle.esb_token.specs.Punctuators.{punctuator, operator}
-use Rattle.esb_token.specs.Tokens.{token, slash, right_brace, or_else, punctuator_or_name}
+use Rattle.esb_token.specs.Tokens.{token, slash, right_brace}
 use Rattle.esb_token.specs.Grammar.{IsPart, joined, AreParts}
 use Rattle.esb_token.proofs.Parts.{run_joined, run_closed}
 

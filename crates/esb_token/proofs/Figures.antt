@@ -1,16 +1,16 @@
 -- Numbers: the literal that the lexer takes has at least the bytes of each number at the front.
-use Rattle.std.proofs.Common.{◌≡◌, ◌≢◌, ◌⊎◌, inl, inr, ℕ, zero, suc, ◌+◌, ◌-◌, ◌<◌, ◌≤◌, Bool, true, false, cond, not, ◌&&◌, ◌||◌, eqb, nat_lt, nat_le, List, [], ◌∷◌, ◌++◌, length, drop, slice_index, refl, sym, ap, ◌∙◌, subst, arith, lit≤, add-zero, append_assoc, length-append, drop-drop}
+use Rattle.std.proofs.Common.{◌≡◌, ◌≢◌, ◌⊎◌, inl, inr, ℕ, ◌+◌, ◌<◌, ◌≤◌, Bool, true, false, cond, not, ◌&&◌, ◌||◌, eqb, nat_lt, List, [], ◌∷◌, ◌++◌, length, drop, slice_index, refl, sym, ap, ◌∙◌, subst, arith, lit≤, add-zero, append_assoc, length-append, drop-drop}
 use Rattle.std.specs.List.{prefix_len}
 use Rattle.std.proofs.lemmas.List.{drop_at, get_or_at, get_or-drop}
 use Rattle.std.proofs.lemmas.List.Folds.{prefix_len-append}
-use Rattle.std.proofs.lemmas.Bool.{ne_eqb, eqb-true, eq-eqb, or_cases, or_parts, and_from, cond-false, cond-true, lt-ltb, cases_Bool, both_ways}
+use Rattle.std.proofs.lemmas.Bool.{ne_eqb, eqb-true, eq-eqb, or_cases, cond-false, cond-true, lt-ltb, both_ways}
 use Rattle.std.proofs.lemmas.Bool.Decides.{nat_tests}
 use Rattle.esb_token.specs.declared.kind.Kind.{Kind}
 use Rattle.esb_token.specs.declared.kind.Kind.TheVariants as k
 use Rattle.esb_token.specs.Characters.{is_digit, is_hex_digit}
 use Rattle.esb_token.specs.Numbers.{digits_at, with_suffix, sign, exponent, integer_part, decimal, based, numeric, is_octal_digit, is_binary_digit}
 use Rattle.esb_token.specs.Grammar.{AreDigits, IsInteger, IsSign, IsPower, base_digit, IsNumeric}
-use Rattle.esb_token.proofs.Marks.{Long, long, either, first}
+use Rattle.esb_token.proofs.Marks.{Long, long, either}
 
 -- ---- digits
 

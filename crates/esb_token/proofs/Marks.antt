@@ -1,14 +1,14 @@
 -- Punctuators: what the lexer takes has at least the bytes of each punctuator at the front.
 use Rattle.std.proofs.Common.{◌≡◌, ℕ, ◌+◌, ◌≤◌, Bool, true, false, cond, not, ◌&&◌, eqb, List, [], ◌∷◌, ◌++◌, length, slice_index, nat_eq, codes, Some, None, refl, sym, ap, ◌∙◌, subst, arith, lit≤}
 use Rattle.std.specs.Cmp.Lexicographic.{pointwise}
-use Rattle.std.proofs.lemmas.Bool.{and_parts, eqb-true, cond-true, cond-false, cases_Bool, not-true}
+use Rattle.std.proofs.lemmas.Bool.{and_parts, eqb-true, cond-false, not-true}
 use Rattle.esb_token.specs.declared.kind.Kind.{Kind}
 use Rattle.esb_token.specs.declared.kind.Kind.TheVariants as k
 use Rattle.esb_token.specs.declared.goal.Goal.{Goal}
 use Rattle.esb_token.specs.declared.goal.Goal.TheVariants as goal
 use Rattle.esb_token.specs.Characters.{is_digit}
 use Rattle.esb_token.specs.Names.{Piece, word_in}
-use Rattle.esb_token.specs.Numbers.{numeric, decimal, integer_part, exponent, digits_at}
+use Rattle.esb_token.specs.Numbers.{numeric, decimal, integer_part, digits_at}
 use Rattle.esb_token.specs.Punctuators.{with_equals, twice_or_equals, punctuator, operator, star, less, greater, equals, exclamation, question, dot}
 use Rattle.esb_token.specs.Tokens.{token, slash, division, right_brace}
 use Rattle.esb_token.specs.Grammar.{punctuators, may_precede, is_under}

@@ -1,7 +1,7 @@
 -- The token that is read is the longest.
-use Rattle.std.proofs.Common.{◌≡◌, ◌≢◌, ◌⊎◌, inl, inr, ℕ, ◌+◌, ◌-◌, ◌<◌, ◌≤◌, Bool, true, false, cond, not, ◌&&◌, ◌||◌, eqb, nat_lt, List, [], ◌∷◌, ◌++◌, length, drop, slice_index, Some, None, Ok, Err, Result, refl, sym, ap, ◌∙◌, subst, arith, drop-drop, append_assoc, length-drop}
+use Rattle.std.proofs.Common.{◌≡◌, ◌≢◌, inl, inr, ℕ, ◌+◌, ◌-◌, ◌<◌, ◌≤◌, Bool, true, false, cond, not, ◌||◌, eqb, nat_lt, List, [], ◌∷◌, ◌++◌, length, drop, slice_index, Some, None, Ok, Err, refl, sym, ap, ◌∙◌, subst, arith, drop-drop, append_assoc, length-drop}
 use Rattle.std.proofs.lemmas.List.{drop_at}
-use Rattle.std.proofs.lemmas.Bool.{ne_eqb, or_cases, both_ways, and_parts, or_right, or_left, eqb-true, cases_Bool}
+use Rattle.std.proofs.lemmas.Bool.{ne_eqb, or_cases, both_ways, and_parts, or_right, or_left}
 use Rattle.esb_token.specs.declared.kind.Kind.{Kind}
 use Rattle.esb_token.specs.declared.kind.Kind.TheVariants as k
 use Rattle.esb_token.specs.declared.token.Token.{Token}
@@ -11,7 +11,7 @@ use Rattle.esb_token.specs.Gaps.{gap}
 use Rattle.esb_token.specs.Names.{Piece, identifier_start}
 use Rattle.esb_token.specs.Numbers.{number, numeric}
 use Rattle.esb_token.specs.Tokens.{token, placed, skipped, next}
-use Rattle.esb_token.specs.Grammar.{AreDigits, IsInteger, IsPower, IsNumeric, IsToken, ends_before}
+use Rattle.esb_token.specs.Grammar.{AreDigits, IsInteger, IsNumeric, IsToken, ends_before}
 use Rattle.esb_token.specs.Longest.{NoneIsLonger, IsLongest, IsNoToken, IsTokenAt}
 use Rattle.esb_token.proofs.Covering.{Covers, covers_by, starts_number, reads, name_covers, string_covers, whole_covers, head_covers, middle_covers, tail_covers, regexp_covers}
 use Rattle.esb_token.proofs.Marks.{punctuator_covers}
@@ -19,7 +19,7 @@ use Rattle.esb_token.proofs.Figures.{first_digit, numeric_covers}
 use Rattle.esb_token.proofs.SoundFigures.{Number, numeric_number}
 use Rattle.esb_token.proofs.Spelling.{token_stands}
 use Rattle.esb_token.proofs.Sound.{Stands, AllStand}
-use Rattle.esb_token.proofs.TokenKinds.{token_start, token_text, token_line, next_is, Made, found}
+use Rattle.esb_token.proofs.TokenKinds.{token_start, token_text, token_line, next_is, found}
 
 -- ---- a number begins as one
 

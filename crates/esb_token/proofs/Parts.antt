@@ -1,8 +1,8 @@
 -- Parts in a row are what the run at the front takes.
-use Rattle.std.proofs.Common.{◌≡◌, ℕ, ◌+◌, ◌<◌, ◌≤◌, List, [], ◌∷◌, ◌++◌, length, drop, refl, sym, ap, ◌∙◌, arith, zero-add, append_assoc, length-append}
+use Rattle.std.proofs.Common.{◌≡◌, ℕ, ◌+◌, ◌<◌, List, [], ◌∷◌, ◌++◌, length, sym, ap, arith, zero-add, append_assoc, length-append}
 use Rattle.std.proofs.lemmas.List.{drop_at}
 use Rattle.esb_token.specs.Runs.{run}
-use Rattle.esb_token.specs.Grammar.{IsPart, joined, AreParts}
+use Rattle.esb_token.specs.Grammar.{joined, AreParts}
 use Rattle.esb_token.proofs.RunSteps.{run-step, run-stops}
 
 pub run_joined : (part : List ℕ → ℕ) (ps : List (List ℕ)) (after : List ℕ) → AreParts part ps after → run part (joined ps ++ after) ≡ length (joined ps) + run part after

@@ -1,7 +1,7 @@
 -- Names, strings, templates and regular expressions that the lexer takes are tokens by the grammar.
-use Rattle.std.proofs.Common.{◌≡◌, ◌≢◌, ◌⊎◌, inl, inr, ℕ, zero, suc, ◌+◌, ◌-◌, ◌<◌, ◌≤◌, min, Bool, true, false, cond, not, ◌&&◌, ◌||◌, eqb, nat_lt, nat_le, List, [], ◌∷◌, ◌++◌, length, take, drop, slice_index, Some, None, refl, sym, ap, ◌∙◌, subst, arith, lit≤, add-zero, append_assoc, length-append, length-drop}
+use Rattle.std.proofs.Common.{◌≡◌, inl, inr, ℕ, zero, suc, ◌+◌, ◌<◌, ◌≤◌, Bool, true, false, cond, ◌&&◌, ◌||◌, eqb, nat_lt, nat_le, List, [], ◌∷◌, ◌++◌, length, take, drop, slice_index, Some, None, refl, sym, ap, ◌∙◌, subst, arith, lit≤, add-zero, append_assoc, length-append, length-drop}
 use Rattle.std.proofs.lemmas.List.{drop_at, get_or-drop, get_or_past, take-append-drop, length-take-le, get_or_append_left, take_at}
-use Rattle.std.proofs.lemmas.Bool.{eqb-true, eqb-false, and_parts, or_parts, leb-false, cases_lt, cond-false, cond-true, both_ways, eq-eqb}
+use Rattle.std.proofs.lemmas.Bool.{eqb-true, eqb-false, and_parts, or_parts, leb-false, cases_lt}
 use Rattle.std.proofs.lemmas.Bool.Decides.{nat_tests}
 use Rattle.esb_token.specs.declared.kind.Kind.{Kind}
 use Rattle.esb_token.specs.declared.kind.Kind.TheVariants as k
@@ -9,12 +9,12 @@ use Rattle.esb_token.specs.declared.goal.Goal.{Goal}
 use Rattle.esb_token.specs.declared.goal.Goal.TheVariants as goal
 use Rattle.std.specs.List.{prefix_len}
 use Rattle.esb_token.specs.Runs.{run}
-use Rattle.esb_token.specs.Characters.{width, code_point, character, is_digit, is_hex_digit, is_identifier_start, is_identifier_part, at_line_end}
+use Rattle.esb_token.specs.Characters.{code_point, character, is_digit, is_hex_digit, is_identifier_start, is_identifier_part, at_line_end}
 use Rattle.esb_token.specs.Names.{Piece, Escape, four_digits, braced_digits, unicode_escape, escape_passing, name_piece, hex_value, name, reserved, word_kind, identifier_start, identifier_part, identifier_character}
 use Rattle.esb_token.specs.Strings.{string, string_piece, string_escape, escape_length}
 use Rattle.esb_token.specs.Templates.{template, template_piece}
-use Rattle.esb_token.specs.RegExps.{regular_expression, body_piece, class, class_piece, escaped_byte}
-use Rattle.esb_token.specs.Grammar.{IsPart, joined, AreParts, IsToken}
+use Rattle.esb_token.specs.RegExps.{regular_expression, body_piece, class, class_piece}
+use Rattle.esb_token.specs.Grammar.{joined, AreParts, IsToken}
 use Rattle.esb_token.proofs.RunSteps.{run-step, run-stops, run-end}
 
 -- ---- parts lie within the text

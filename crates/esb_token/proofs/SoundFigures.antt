@@ -1,15 +1,15 @@
 -- Numbers that the lexer takes are numeric literals by the grammar.
-use Rattle.std.proofs.Common.{◌≡◌, ◌≢◌, ◌⊎◌, inl, inr, ℕ, zero, suc, ◌+◌, ◌-◌, ◌<◌, ◌≤◌, Bool, true, false, cond, not, ◌&&◌, ◌||◌, eqb, nat_lt, nat_le, List, [], ◌∷◌, ◌++◌, length, drop, slice_index, refl, sym, ap, ◌∙◌, subst, arith, lit≤, append_assoc, length-append, append-nil, drop-drop}
+use Rattle.std.proofs.Common.{◌≡◌, inl, inr, ℕ, zero, suc, ◌+◌, ◌<◌, Bool, true, false, cond, ◌&&◌, ◌||◌, eqb, nat_lt, List, [], ◌∷◌, ◌++◌, length, drop, slice_index, refl, sym, ap, ◌∙◌, subst, arith, append_assoc, length-append, append-nil, drop-drop}
 use Rattle.std.specs.List.{prefix_len}
 use Rattle.std.proofs.lemmas.List.{drop_at}
-use Rattle.std.proofs.lemmas.Bool.{ne_eqb, eqb-true, eqb-false, eq-eqb, or_cases, and_parts, cond-false, cond-true, ltb-true}
+use Rattle.std.proofs.lemmas.Bool.{eqb-true, eqb-false, or_cases, and_parts, cond-false, cond-true, ltb-true}
 use Rattle.esb_token.specs.declared.kind.Kind.{Kind}
 use Rattle.esb_token.specs.declared.kind.Kind.TheVariants as k
 use Rattle.esb_token.specs.Characters.{is_digit, is_hex_digit}
 use Rattle.esb_token.specs.Numbers.{digits_at, with_suffix, exponent, integer_part, decimal, based, numeric, is_octal_digit, is_binary_digit}
 use Rattle.esb_token.specs.Grammar.{AreDigits, IsInteger, IsSign, IsPower, base_digit, IsNumeric}
 use Rattle.esb_token.proofs.Figures.{exponent_drop, digits_end, same_digits}
-use Rattle.esb_token.proofs.Sound.{First, first_is, at_rest_first}
+use Rattle.esb_token.proofs.Sound.{first_is, at_rest_first}
 
 positive : (n : ℕ) → (n ≡ 0 → ⊥) → 0 < n
 positive zero h = absurd (h refl)

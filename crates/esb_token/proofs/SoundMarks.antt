@@ -1,16 +1,14 @@
 -- Punctuators that the lexer takes are punctuators by the table.
-use Rattle.std.proofs.Common.{◌≡◌, ℕ, ◌+◌, ◌<◌, ◌≤◌, Bool, true, false, cond, not, ◌&&◌, eqb, List, [], ◌∷◌, ◌++◌, length, slice_index, codes, Some, None, refl, sym, ap, ◌∙◌, subst, arith, append_assoc, length-append}
-use Rattle.std.proofs.lemmas.Bool.{eqb-true, and_parts, cases_Bool, not_from_false}
+use Rattle.std.proofs.Common.{◌≡◌, ℕ, ◌+◌, ◌<◌, Bool, true, false, cond, not, ◌&&◌, eqb, List, [], ◌∷◌, ◌++◌, length, slice_index, Some, None, refl, sym, ap, ◌∙◌, subst, arith, append_assoc, length-append}
+use Rattle.std.proofs.lemmas.Bool.{eqb-true, and_parts, not_from_false}
 use Rattle.esb_token.specs.declared.kind.Kind.{Kind}
 use Rattle.esb_token.specs.declared.kind.Kind.TheVariants as k
-use Rattle.esb_token.specs.declared.goal.Goal.{Goal}
-use Rattle.esb_token.specs.declared.goal.Goal.TheVariants as goal
 use Rattle.esb_token.specs.Characters.{is_digit}
 use Rattle.esb_token.specs.Names.{Piece, word_in}
 use Rattle.esb_token.specs.Punctuators.{with_equals, twice_or_equals, punctuator, operator, star, less, greater, equals, exclamation, question, dot}
 use Rattle.esb_token.specs.Tokens.{division}
-use Rattle.esb_token.specs.Grammar.{punctuators, may_precede, is_under, IsToken}
-use Rattle.esb_token.proofs.Sound.{First, first_is, Stands, AllStand, none_stand, some_stand, cond_stand, at_rest_first}
+use Rattle.esb_token.specs.Grammar.{punctuators, may_precede}
+use Rattle.esb_token.proofs.Sound.{first_is, at_rest_first}
 
 -- a punctuator with the kind and the bytes of a pair
 pub record IsMark (text : List ℕ) (p : Kind × ℕ) : Type 0 where

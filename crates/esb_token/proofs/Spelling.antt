@@ -1,5 +1,5 @@
 -- What the lexer takes at the front of a text is a token by the grammar.
-use Rattle.std.proofs.Common.{◌≡◌, ℕ, ◌+◌, Bool, true, false, cond, not, ◌&&◌, ◌||◌, eqb, nat_lt, List, [], ◌∷◌, drop, slice_index, Some, None, refl, sym, ap, ◌∙◌, subst}
+use Rattle.std.proofs.Common.{◌≡◌, ℕ, Bool, true, ◌&&◌, ◌||◌, eqb, nat_lt, List, [], ◌∷◌, drop, slice_index, Some, None, refl, sym, subst}
 use Rattle.std.proofs.lemmas.Bool.{eqb-true}
 use Rattle.esb_token.specs.declared.kind.Kind.{Kind}
 use Rattle.esb_token.specs.declared.kind.Kind.TheVariants as k
@@ -11,14 +11,13 @@ use Rattle.esb_token.specs.Names.{Piece, name, identifier_start}
 use Rattle.esb_token.specs.Numbers.{number, numeric}
 use Rattle.esb_token.specs.Strings.{string}
 use Rattle.esb_token.specs.Templates.{template}
-use Rattle.esb_token.specs.RegExps.{regular_expression}
 use Rattle.esb_token.specs.Punctuators.{punctuator}
 use Rattle.esb_token.specs.Tokens.{division, slash, right_brace, or_else, punctuator_or_name, token}
 use Rattle.esb_token.specs.Grammar.{IsToken, is_under}
 use Rattle.esb_token.proofs.KindsGiven.{Gives, is_ordinary, division_kind, punctuator_ordinary}
-use Rattle.esb_token.proofs.Sound.{Stands, AllStand, none_stand, some_stand, cond_stand, name_stands, string_stands, begin_stands, tail_stands, regexp_stands}
+use Rattle.esb_token.proofs.Sound.{AllStand, none_stand, some_stand, cond_stand, name_stands, string_stands, begin_stands, tail_stands, regexp_stands}
 use Rattle.esb_token.proofs.SoundMarks.{AllMarks, punctuator_marks, division_marks}
-use Rattle.esb_token.proofs.SoundFigures.{Number, numeric_number}
+use Rattle.esb_token.proofs.SoundFigures.{numeric_number}
 
 ordinary_under : (g : Goal) (kind : Kind) → is_ordinary kind ≡ true → is_under g kind ≡ true
 ordinary_under goal.Div kind h = refl

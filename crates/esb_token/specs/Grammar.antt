@@ -1,5 +1,5 @@
 -- The lexical grammar (ECMA-262, clause 11): which bytes are a token of a kind. Which of several tokens at a place is read is said below, by their lengths.
-use Rattle.std.specs.Prelude.{◌≡◌, ◌≢◌, ◌⊎◌, ℕ, ◌<◌, ◌≤◌, Bool, true, false, not, ◌||◌, if◌then◌else◌, ◌==◌, List, [], ◌∷◌, ◌++◌, length, slice_index, nat_lt, Some, codes}
+use Rattle.std.specs.Prelude.{◌≡◌, ◌≢◌, ◌⊎◌, ℕ, ◌<◌, Bool, true, false, not, ◌||◌, if◌then◌else◌, ◌==◌, List, [], ◌∷◌, ◌++◌, length, slice_index, nat_lt, Some, codes}
 use Rattle.std.specs.List.{prefix_len}
 use Rattle.esb_token.specs.declared.kind.Kind.{Kind}
 use Rattle.esb_token.specs.declared.kind.Kind.TheVariants as k
