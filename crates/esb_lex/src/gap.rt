@@ -67,6 +67,43 @@ fn block_comment(text: &[u8]) -> Extent
     Extent { length, has_line }
 }
 
+/// A separator, by the standard's order of the cases.
+#[tactic(auto, unfolding(esb_token::specs::Gaps::separator, esb_token::specs::Gaps::has_line, esb_token::specs::Gaps::comment))]
+fn separator_extent(text: &[u8]) -> Extent
+    ensures value { result.length ≡ spec.separator text.now }
+    ensures within { result.length ≤ length text.now }
+    ensures lined { 0 < result.length → result.has_line ≡ spec.has_line text.now }
+{
+    if at_line_end(text) {
+        let length = character(text);
+        return Extent {
+            length,
+            has_line: true,
+        };
+    }
+    if is_space(code_point(text)) {
+        let length = character(text);
+        return Extent {
+            length,
+            has_line: false,
+        };
+    }
+    if begins_with(text, b'/', b'/') {
+        let length = line_comment(text);
+        return Extent {
+            length,
+            has_line: false,
+        };
+    }
+    if begins_with(text, b'/', b'*') {
+        return block_comment(text);
+    }
+    Extent {
+        length: 0,
+        has_line: false,
+    }
+}
+
 struct Separator;
 
 impl LinedPart for Separator {
@@ -74,35 +111,19 @@ impl LinedPart for Separator {
 
     ghost line = { λ _ text. spec.has_line text };
 
-    #[tactic(auto, unfolding(esb_token::specs::Gaps::separator, esb_token::specs::Gaps::has_line, esb_token::specs::Gaps::comment))]
+    // Most tokens begin with an ASCII character that no separator has, or stand behind one space: both are told by one byte.
+    #[tactic(auto, unfolding(esb_token::specs::Gaps::separator, esb_token::specs::Gaps::has_line, esb_token::specs::Gaps::comment, esb_token::specs::Characters::at_line_end, esb_token::specs::Characters::code_point, esb_token::specs::Characters::character))]
     fn extent(&self, text: &[u8]) -> Extent {
-        if at_line_end(text) {
-            let length = character(text);
-            return Extent {
-                length,
-                has_line: true,
-            };
-        }
-        if is_space(code_point(text)) {
-            let length = character(text);
-            return Extent {
-                length,
+        match text {
+            [b' ', ..] => Extent {
+                length: 1,
                 has_line: false,
-            };
-        }
-        if begins_with(text, b'/', b'/') {
-            let length = line_comment(text);
-            return Extent {
-                length,
+            },
+            [b'!'..=b'.' | b'0'..=b'~', ..] => Extent {
+                length: 0,
                 has_line: false,
-            };
-        }
-        if begins_with(text, b'/', b'*') {
-            return block_comment(text);
-        }
-        Extent {
-            length: 0,
-            has_line: false,
+            },
+            _ => separator_extent(text),
         }
     }
 }

@@ -129,8 +129,11 @@ struct IdentifierPart;
 impl Part for IdentifierPart {
     ghost part = { λ _ text. spec.identifier_part text };
 
-    #[tactic(auto, unfolding(esb_token::specs::Names::identifier_part))]
+    #[tactic(auto, unfolding(esb_token::specs::Names::identifier_part, esb_token::specs::Characters::code_point, esb_token::specs::Characters::character))]
     fn length(&self, text: &[u8]) -> usize {
+        if let [b'a'..=b'z' | b'A'..=b'Z' | b'0'..=b'9' | b'_' | b'$', ..] = text {
+            return 1;
+        }
         if byte_at(text, 0) == b'\\' {
             return match unicode_escape(text) {
                 Some((value, length)) if is_identifier_part(value) => length,

@@ -2,7 +2,8 @@
 
 ghost use Rattle.std.specs.Prelude.{◌≡◌, ◌≢◌, ◌+◌, ◌^◌, ◌<◌, ◌≤◌, length, IfSome, IfOk, IfErr};
 ghost use Rattle.esb_token.specs.Tokens as spec;
-ghost use Rattle.esb_lex.specs.Answers.{answer, IsWithin, IsPlace, IsLast};
+ghost use Rattle.esb_token.specs.Longest.{IsLongest, IsTokenAt};
+ghost use Rattle.esb_lex.specs.Answers.{answer, IsWithin, IsPlace, IsLast, IsRefusal};
 ghost use Rattle.esb_token.specs.declared.kind.Kind.TheVariants as k;
 ghost use Rattle.esb_lex.specs.Pieces.{IsPiece};
 
@@ -127,11 +128,15 @@ fn skipped(bytes: &[u8], at: usize) -> usize
 
 /// The next token from a place on: the longest of the goal, at the first place behind white space and comments
 /// (ECMA-262, clause 11). A first line `#!` is skipped at the very start. `at` is at most the contents' length, and where a
-/// character begins.
+/// character begins. It is refused exactly where the contents don't end and no token of the goal stands, or where the longest
+/// is a number with a digit or the start of a name directly behind it.
 #[tactic(auto, unfolding(esb_token::specs::Tokens::next))]
 pub fn next(contents: &Text, at: usize, goal: Goal) -> Result<Token, LexFault>
     requires { at ≤ length contents.now }
     ensures value { result ≡ answer (spec.next contents.now at goal) }
+    ensures spelled { IfOk result (λ token. token.kind ≢ k.End → IsTokenAt goal contents.now token) }
+    ensures longest { IfOk result (IsLongest goal contents.now) }
+    ensures refused { IfErr result (IsRefusal goal contents.now) }
     ensures within { IfOk result (IsWithin at (length contents.now)) }
     ensures progress { IfOk result (λ token. token.kind ≢ k.End → token.start < token.end) }
     ensures place { IfErr result (IsPlace at (length contents.now)) }

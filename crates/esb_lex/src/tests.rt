@@ -308,3 +308,191 @@ fn lines(rt: HostRuntime) -> Result<(), Fail> {
     assert_eq!(rt; after_line(alloc, "#!x")?, Some(false));
     Ok(())
 }
+
+#[test]
+fn every_punctuator(rt: HostRuntime) -> Result<(), Fail> {
+    let alloc = rt.alloc();
+    let short = [
+        Kind::LeftBrace,
+        Kind::RightBrace,
+        Kind::LeftParenthesis,
+        Kind::RightParenthesis,
+        Kind::LeftBracket,
+        Kind::RightBracket,
+        Kind::Dot,
+        Kind::Ellipsis,
+        Kind::Semicolon,
+        Kind::Comma,
+        Kind::Colon,
+        Kind::Tilde,
+        Kind::Question,
+        Kind::QuestionQuestion,
+        Kind::QuestionDot,
+    ];
+    assert!(rt;
+        spells(
+            alloc,
+            Goal::Div,
+            "{ } ( ) [ ] . ... ; , : ~ ? ?? ?.",
+            &short
+        )?
+    );
+    let compared = [
+        Kind::Less,
+        Kind::Greater,
+        Kind::LessEqual,
+        Kind::GreaterEqual,
+        Kind::Equal,
+        Kind::NotEqual,
+        Kind::StrictEqual,
+        Kind::StrictNotEqual,
+        Kind::Exclamation,
+        Kind::AndAnd,
+        Kind::BarBar,
+        Kind::Assign,
+        Kind::Arrow,
+    ];
+    assert!(rt;
+        spells(
+            alloc,
+            Goal::Div,
+            "< > <= >= == != === !== ! && || = =>",
+            &compared
+        )?
+    );
+    Ok(())
+}
+
+#[test]
+fn every_operator(rt: HostRuntime) -> Result<(), Fail> {
+    let alloc = rt.alloc();
+    let plain = [
+        Kind::Plus,
+        Kind::Minus,
+        Kind::Star,
+        Kind::Slash,
+        Kind::Percent,
+        Kind::StarStar,
+        Kind::PlusPlus,
+        Kind::MinusMinus,
+        Kind::ShiftLeft,
+        Kind::ShiftRight,
+        Kind::ShiftRightUnsigned,
+        Kind::Ampersand,
+        Kind::Bar,
+        Kind::Caret,
+    ];
+    assert!(rt;
+        spells(
+            alloc,
+            Goal::Div,
+            "+ - * / % ** ++ -- << >> >>> & | ^",
+            &plain
+        )?
+    );
+    let assigned = [
+        Kind::PlusAssign,
+        Kind::MinusAssign,
+        Kind::StarAssign,
+        Kind::SlashAssign,
+        Kind::PercentAssign,
+        Kind::StarStarAssign,
+        Kind::ShiftLeftAssign,
+        Kind::ShiftRightAssign,
+        Kind::ShiftRightUnsignedAssign,
+        Kind::AmpersandAssign,
+        Kind::BarAssign,
+        Kind::CaretAssign,
+    ];
+    assert!(rt;
+        spells(
+            alloc,
+            Goal::Div,
+            "+= -= *= /= %= **= <<= >>= >>>= &= |= ^=",
+            &assigned
+        )?
+    );
+    Ok(())
+}
+
+#[test]
+fn reserved_words(rt: HostRuntime) -> Result<(), Fail> {
+    let alloc = rt.alloc();
+    let first = [
+        Kind::Await,
+        Kind::Break,
+        Kind::Case,
+        Kind::Catch,
+        Kind::Class,
+        Kind::Const,
+        Kind::Continue,
+        Kind::Debugger,
+        Kind::Default,
+        Kind::Delete,
+        Kind::Do,
+        Kind::Else,
+        Kind::Enum,
+        Kind::Export,
+        Kind::Extends,
+        Kind::False,
+    ];
+    let words =
+        "await break case catch class const continue debugger default delete do else enum export extends false";
+    assert!(rt; spells(alloc, Goal::Div, words, &first)?);
+    let second = [
+        Kind::Finally,
+        Kind::For,
+        Kind::Function,
+        Kind::If,
+        Kind::Implements,
+        Kind::Import,
+        Kind::In,
+        Kind::Instanceof,
+        Kind::Interface,
+        Kind::Let,
+        Kind::New,
+        Kind::Null,
+        Kind::Package,
+        Kind::Private,
+        Kind::Protected,
+    ];
+    let words =
+        "finally for function if implements import in instanceof interface let new null package private protected";
+    assert!(rt; spells(alloc, Goal::Div, words, &second)?);
+    let third = [
+        Kind::Public,
+        Kind::Return,
+        Kind::Static,
+        Kind::Super,
+        Kind::Switch,
+        Kind::This,
+        Kind::Throw,
+        Kind::True,
+        Kind::Try,
+        Kind::Typeof,
+        Kind::Var,
+        Kind::Void,
+        Kind::While,
+        Kind::With,
+        Kind::Yield,
+    ];
+    let words =
+        "public return static super switch this throw true try typeof var void while with yield";
+    assert!(rt; spells(alloc, Goal::Div, words, &third)?);
+    Ok(())
+}
+
+#[test]
+fn white_space(rt: HostRuntime) -> Result<(), Fail> {
+    let alloc = rt.alloc();
+    let spaces = "\t\u{b}\u{c} \u{a0}\u{feff}\u{1680}\u{2000}\u{200a}\u{202f}\u{205f}\u{3000}a";
+    assert_eq!(rt; after_line(alloc, spaces)?, Some(false));
+    assert_eq!(rt; after_line(alloc, "\u{180e}a")?, None);
+    assert_eq!(rt; after_line(alloc, "\u{85}a")?, None);
+    assert_eq!(rt; after_line(alloc, "/* // */a")?, Some(false));
+    assert_eq!(rt; after_line(alloc, "// /*\n*/")?, Some(true));
+    assert_eq!(rt; after_line(alloc, "/**/<!--")?, Some(false));
+    assert!(rt; refuses(alloc, Goal::Div, "/* /**/ /*/", 8)?);
+    assert!(rt; refuses(alloc, Goal::TemplateTail, "\n/*", 1)?);
+    Ok(())
+}

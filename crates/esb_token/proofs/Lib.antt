@@ -1,3 +1,13 @@
+pub mod RunSteps
 pub mod KindsGiven
 pub mod GoalsAgree
 pub mod TokenKinds
+pub mod Parts
+pub mod Covering
+pub mod Marks
+pub mod Figures
+pub mod Maximal
+pub mod Sound
+pub mod SoundMarks
+pub mod SoundFigures
+pub mod Spelling

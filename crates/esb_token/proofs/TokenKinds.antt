@@ -23,20 +23,20 @@ use Rattle.esb_token.proofs.GoalsAgree.{Same, rest_of, is_plain, rest_plain, tok
 -- ---- from the front of a text to a place
 
 -- the text at which a token is read
-abbrev token_start : List ℕ → ℕ → ℕ
+abbrev pub token_start : List ℕ → ℕ → ℕ
 token_start contents at = let from = at + skipped contents at in from + gap (drop from contents)
 
-abbrev token_text : List ℕ → ℕ → List ℕ
+abbrev pub token_text : List ℕ → ℕ → List ℕ
 token_text contents at = let from = at + skipped contents at in drop (gap (drop from contents)) (drop from contents)
 
-abbrev token_line : List ℕ → ℕ → Bool
+abbrev pub token_line : List ℕ → ℕ → Bool
 token_line contents at = gap_has_line (drop (at + skipped contents at) contents)
 
-next_is : (contents : List ℕ) (at : ℕ) (g : Goal) → next contents at g ≡ placed (token_start contents at) (token_line contents at) (token g (token_text contents at))
+pub next_is : (contents : List ℕ) (at : ℕ) (g : Goal) → next contents at g ≡ placed (token_start contents at) (token_line contents at) (token g (token_text contents at))
 unfolding next next_from
 next_is contents at g = refl
 
-abbrev Made : ℕ → Bool → Token → Kind × ℕ → Type 0
+abbrev pub Made : ℕ → Bool → Token → Kind × ℕ → Type 0
 Made start line t p = t ≡ record { kind = p.0; start = start; end = start + p.1; after_line = line }
 
 piece_of : (start : ℕ) (line : Bool) (piece : Piece) (t : Token) → placed start line piece ≡ Ok t → (p : Kind × ℕ) × (piece ≡ Some p) × Made start line t p
@@ -46,7 +46,7 @@ piece_of start line (Some p) t h = (p, refl, cc)
 placed_at : (start : ℕ) (line : Bool) (piece : Piece) (p : Kind × ℕ) → piece ≡ Some p → placed start line piece ≡ Ok (record { kind = p.0; start = start; end = start + p.1; after_line = line })
 placed_at start line piece p h = ap (placed start line) h
 
-found : (contents : List ℕ) (at : ℕ) (g : Goal) (t : Token) → next contents at g ≡ Ok t
+pub found : (contents : List ℕ) (at : ℕ) (g : Goal) (t : Token) → next contents at g ≡ Ok t
     → (p : Kind × ℕ) × (token g (token_text contents at) ≡ Some p) × Made (token_start contents at) (token_line contents at) t p
 found contents at g t h = piece_of _ _ (token g (token_text contents at)) t (sym (next_is contents at g) ∙ h)
 

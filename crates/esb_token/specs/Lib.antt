@@ -9,4 +9,6 @@ pub mod Templates
 pub mod RegExps
 pub mod Punctuators
 pub mod Tokens
+pub mod Grammar
+pub mod Longest
 pub mod Laws

@@ -10,3 +10,6 @@ pub use goal::Goal;
 pub use kind::Kind;
 pub use laws::{goals_agree, kinds_tell};
 pub use token::Token;
+
+#[cfg(test)]
+mod tests;

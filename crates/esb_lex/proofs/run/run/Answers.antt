@@ -1,5 +1,5 @@
 use Rattle.std.proofs.Common.{ap, length, arith, length-drop}
-use Rattle.esb_lex.proofs.RunSteps.{run-at_stop, run-at_end, run-at_step}
+use Rattle.esb_token.proofs.RunSteps.{run-at_stop, run-at_end, run-at_step}
 use Rattle.esb_lex.proofs.run.run.Goals as goal
 
 pub returns-then-length-eq0-clause-value : goal.returns-then-length-eq0-clause-value

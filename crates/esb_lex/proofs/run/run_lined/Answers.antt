@@ -1,5 +1,5 @@
 use Rattle.std.proofs.Common.{◌<◌, ap, length, arith, length-drop}
-use Rattle.esb_lex.proofs.RunSteps.{run-at_stop, run-at_end, run-at_step, run_any-at_stop, run_any-at_end, run_any-at_step, carried, carried-last}
+use Rattle.esb_token.proofs.RunSteps.{run-at_stop, run-at_end, run-at_step, run_any-at_stop, run_any-at_end, run_any-at_step, carried, carried-last}
 use Rattle.esb_lex.proofs.run.run_lined.Goals as goal
 
 pub returns-then-next-eq0-clause-value : goal.returns-then-next-eq0-clause-value
