@@ -72,7 +72,7 @@ module _ (tells : Type 0) (world : List Folder) where
   worked-refl old new es le = record {
     sound = λ h. h;
     from_host = λ t h. h;
-    in_turn = λ t h. h;
+    in_turn = λ h. h;
     counted = λ start h. by start h;
     arrived = refl;
     sends = refl;
@@ -87,20 +87,20 @@ module _ (tells : Type 0) (world : List Folder) where
   worked-trans a b c es fs gs w v = record {
     sound = λ h. v.sound (w.sound h);
     from_host = λ t h. v.from_host t (w.from_host t h);
-    in_turn = λ t h. v.in_turn t (w.in_turn t h);
+    in_turn = λ h. v.in_turn (w.in_turn h);
     counted = λ start h. v.counted start (w.counted start h);
     arrived = v.arrived ∙ w.arrived;
     sends = v.sends ∙ w.sends;
     ended = v.ended ∙ w.ended;
   }
 
-  pub worked-push : (old new : ℕ) (es fs : List Event) (e : Event) → fs ≡ es ++ e ∷ [] → IsOfWork e → (Sound es → IsSound es e) → (tells → IsTold world e) → (tells → IsInTurn world es e)
+  pub worked-push : (old new : ℕ) (es fs : List Event) (e : Event) → fs ≡ es ++ e ∷ [] → IsOfWork e → (Sound es → IsSound es e) → (tells → IsTold world e) → IsInTurn tells world es e
       → (is_fault_record e ≡ true → Rose old new) → old ≤ new
       → Worked tells world old new es fs
   worked-push old new es fs e is work sound told turn rise le = subst (λ (ds : List Event). Worked tells world old new es ds) (sym is) record {
     sound = λ h. each-push IsSound es e h (sound h);
     from_host = λ t h. all-push (IsTold world) es e h (told t);
-    in_turn = λ t h. each-push (IsInTurn world) es e h (turn t);
+    in_turn = λ h. each-push (IsInTurn tells world) es e h turn;
     counted = λ start h. subst (λ (k : ℕ). RoseBy k start new) (sym (faults-push es e)) (rose-more (faults es) start old new (is_fault_record e) le rise h);
     arrived = arrivals-push es e ∙ ap (λ ps. arrivals es ++ ps) work.none_arrived ∙ list_end (arrivals es);
     sends = sent-push es e ∙ ap (λ ps. sent_packets es ++ ps) (work.none_sent es) ∙ list_end (sent_packets es);

@@ -30,7 +30,7 @@ use Rattle.esb_sound.specs.Sent.{arrivals}
 use Rattle.esb_sound.specs.Serial.{InTurn, IsInTurn, claim_or, doing, doing_after, input_step, is_refusal, linked, next, pop_or, scan_step, step_by}
 use Rattle.esb_sound.specs.Sound.{IsLinked}
 use Rattle.esb_sound.specs.Told.{is_fault, told}
-use Rattle.esb_top.specs.Turn.{IsAtRest, IsFree}
+use Rattle.esb_top.specs.Turn.{IsAtRest, IsFree, TurnsOne}
 use Rattle.esb_top.proofs.Histories.{each-push}
 
 pub doing-push : (es : List Event) (e : Event) → doing (es ++ e ∷ []) ≡ doing_after (doing es) e
@@ -39,7 +39,7 @@ doing-push es e = fold-append doing_after None es (e ∷ [])
 pub doing-is : (es new : List Event) (e : Event) → new ≡ es ++ e ∷ [] → doing new ≡ doing_after (doing es) e
 doing-is es new e is = ap doing is ∙ doing-push es e
 
-module _ (world : List Folder) (es : List Event) where
+module _ (tells : Type 0) (world : List Folder) (es : List Event) where
   next-with : (packets : List Packet) (j : Option Job) → doing es ≡ j → next world packets es ≡ step_by world packets es j
   next-with packets j is = ap (λ (o : Option Job). step_by world packets es o) is
 
@@ -47,10 +47,11 @@ module _ (world : List Folder) (es : List Event) where
   pop-is [] otherwise some = absurd (omega (arith, some))
   pop-is (o ∷ os) otherwise some = refl
 
-  pub pop-in_turn : is_legal es ≡ true → IsFree es → 0 < length (replay es).owed → IsInTurn world es event.Pop
+  pub pop-in_turn : is_legal es ≡ true → IsFree es → 0 < length (replay es).owed → IsInTurn tells world es event.Pop
   pop-in_turn legal free some = record {
     goes_on = refl;
-    follows = λ lapse packets arrives.
+    handles = tt;
+    follows = λ told_it lapse packets arrives.
         next-with packets None free ∙ ap (λ (e : Event). Some e) (pop-is (owed es) _ (subst (λ (os : List Out). 0 < length os) (reads-legal es legal).owed some));
   }
 
@@ -61,10 +62,11 @@ module _ (world : List Folder) (es : List Event) where
       next-with packets None free
       ∙ ap (λ (os : List Out). Some (pop_or os (claim_or (first_job (replay es) (role.Worker 0)) (input_step (slice_get packets (length (arrivals es))))))) (sym (reads-legal es legal).owed ∙ none)
 
-  pub claim-in_turn : (j : Job) → is_legal es ≡ true → IsFree es → (replay es).owed ≡ [] → first_job (replay es) (role.Worker 0) ≡ Some j → IsInTurn world es (event.Claim (role.Worker 0) j)
+  pub claim-in_turn : (j : Job) → is_legal es ≡ true → IsFree es → (replay es).owed ≡ [] → first_job (replay es) (role.Worker 0) ≡ Some j → IsInTurn tells world es (event.Claim (role.Worker 0) j)
   claim-in_turn j legal free none first = record {
     goes_on = refl;
-    follows = λ lapse packets arrives.
+    handles = (refl, free);
+    follows = λ told_it lapse packets arrives.
         next-unowed packets legal free none ∙ ap (λ (o : Option Job). Some (claim_or o (input_step (slice_get packets (length (arrivals es)))))) first;
   }
 
@@ -73,10 +75,11 @@ module _ (world : List Folder) (es : List Event) where
   next-read packets legal rest =
       next-unowed packets legal rest.free rest.none_owed ∙ ap (λ (o : Option Job). Some (claim_or o (input_step (slice_get packets (length (arrivals es)))))) rest.no_job
 
-  pub arrive-in_turn : (packet : Packet) → is_legal es ≡ true → IsAtRest es → IsInTurn world es (event.Arrive packet)
+  pub arrive-in_turn : (packet : Packet) → is_legal es ≡ true → IsAtRest es → IsInTurn tells world es (event.Arrive packet)
   arrive-in_turn packet legal rest = record {
     goes_on = refl;
-    follows = λ lapse packets arrives. next-read packets legal rest ∙ ap (λ (p : Option Packet). Some (input_step p)) arrives;
+    handles = tt;
+    follows = λ told_it lapse packets arrives. next-read packets legal rest ∙ ap (λ (p : Option Packet). Some (input_step p)) arrives;
   }
 
   answer-is : (n : ℕ) (q : Question) (a : Answer) → is_fault a ≡ false → (a ≡ told world n q) ⊎ (a ≡ answers.Fault) → told world n q ≡ a
@@ -84,17 +87,19 @@ module _ (world : List Folder) (es : List Event) where
   answer-is n q a sane (inr is) = absurd (false≢true (sym sane ∙ ap is_fault is))
 
   pub record-in_turn : (n : ℕ) (t : Task) (q : Question) (a : Answer) → doing es ≡ Some (job.Scan n t) → run (build es n).options (table es n) t ≡ runs.Asks q
-      → (a ≡ told world n q) ⊎ (a ≡ answers.Fault) → IsInTurn world es (event.Record 0 n q a)
+      → (tells → (a ≡ told world n q) ⊎ (a ≡ answers.Fault)) → IsInTurn tells world es (event.Record 0 n q a)
   record-in_turn n t q a is asks from = record {
     goes_on = refl;
-    follows = λ lapse packets arrives.
-        next-with packets (Some (job.Scan n t)) is ∙ ap (λ (r : Run). scan_step world n t r) asks ∙ ap (λ (b : Answer). Some (event.Record 0 n q b)) (answer-is n q a lapse from);
+    handles = tt;
+    follows = λ told_it lapse packets arrives.
+        next-with packets (Some (job.Scan n t)) is ∙ ap (λ (r : Run). scan_step world n t r) asks ∙ ap (λ (b : Answer). Some (event.Record 0 n q b)) (answer-is n q a lapse (from told_it));
   }
 
-  pub deliver-in_turn : (n : ℕ) (t : Task) (p : Product) → doing es ≡ Some (job.Scan n t) → run (build es n).options (table es n) t ≡ runs.Done p → IsInTurn world es (event.Deliver 0 n t p)
+  pub deliver-in_turn : (n : ℕ) (t : Task) (p : Product) → doing es ≡ Some (job.Scan n t) → run (build es n).options (table es n) t ≡ runs.Done p → IsInTurn tells world es (event.Deliver 0 n t p)
   deliver-in_turn n t p is done = record {
     goes_on = refl;
-    follows = λ lapse packets arrives. next-with packets (Some (job.Scan n t)) is ∙ ap (λ (r : Run). scan_step world n t r) done;
+    handles = (refl, is);
+    follows = λ told_it lapse packets arrives. next-with packets (Some (job.Scan n t)) is ∙ ap (λ (r : Run). scan_step world n t r) done;
   }
 
   linked-is : (options : Options) (answers : List (Question × Answer)) (o : Outcome) → is_refusal o ≡ false → IsLinked options answers o → linked (serial_link options answers) ≡ o
@@ -103,15 +108,16 @@ module _ (world : List Folder) (es : List Event) where
   linked-is options answers outcomes.Canceled sane right = absurd right
   linked-is options answers outcomes.Memory sane right = absurd (false≢true (sym sane))
 
-  pub settle-in_turn : (n : ℕ) (o : Outcome) → doing es ≡ Some (job.Link n) → IsLinked (build es n).options (table es n) o → IsInTurn world es (event.Settle 0 n o)
+  pub settle-in_turn : (n : ℕ) (o : Outcome) → doing es ≡ Some (job.Link n) → IsLinked (build es n).options (table es n) o → IsInTurn tells world es (event.Settle 0 n o)
   settle-in_turn n o is right = record {
     goes_on = refl;
-    follows = λ lapse packets arrives. next-with packets (Some (job.Link n)) is ∙ ap (λ (p : Outcome). Some (event.Settle 0 n p)) (linked-is (build es n).options (table es n) o lapse right);
+    handles = (refl, inl is);
+    follows = λ told_it lapse packets arrives. next-with packets (Some (job.Link n)) is ∙ ap (λ (p : Outcome). Some (event.Settle 0 n p)) (linked-is (build es n).options (table es n) o lapse right);
   }
 
   -- a settling for want of memory may come at any moment
-  pub refusal-in_turn : (n : ℕ) → IsInTurn world es (event.Settle 0 n outcomes.Memory)
-  refusal-in_turn n = record { goes_on = refl; follows = λ lapse packets arrives. absurd (false≢true (sym lapse)) }
+  pub refusal-in_turn : (n : ℕ) → (doing es ≡ Some (job.Link n)) ⊎ ((t : Task) × (doing es ≡ Some (job.Scan n t))) → IsInTurn tells world es (event.Settle 0 n outcomes.Memory)
+  refusal-in_turn n hand = record { goes_on = refl; handles = (refl, hand); follows = λ told lapse packets arrives. absurd (false≢true (sym lapse)) }
 
 -- ---- a pop
 
@@ -123,9 +129,15 @@ pub unowed : (os : List Out) → slice_get os 0 ≡ None → os ≡ []
 unowed [] is = refl
 unowed (o ∷ os) is = absurd cc
 
-pub popped-in_turn : (world : List Folder) (es new : List Event) (out : Out) → is_legal es ≡ true → IsFree es → slice_get (replay es).owed 0 ≡ Some out → new ≡ es ++ event.Pop ∷ [] → InTurn world es → InTurn world new
-popped-in_turn world es new out legal free first is h =
-    subst (λ (ds : List Event). InTurn world ds) (sym is) (each-push (IsInTurn world) es event.Pop h (pop-in_turn world es legal free (some-owed (replay es).owed out first)))
+pub popped-in_turn : (world : List Folder) (es new : List Event) (out : Out) → is_legal es ≡ true → IsFree es → slice_get (replay es).owed 0 ≡ Some out → new ≡ es ++ event.Pop ∷ [] → TurnsOne world es new
+popped-in_turn world es new out legal free first is = inr (event.Pop, is, pop-in_turn (Unit {0}) world es legal free (some-owed (replay es).owed out first))
+
+-- what comes in its turn whether or not the world is told
+pub turns-one : (tells : Type 0) (world : List Folder) (es new : List Event) → TurnsOne world es new → InTurn tells world es → InTurn tells world new
+turns-one tells world es new (inl same) h = subst (λ (ds : List Event). InTurn tells world ds) (sym same) h
+turns-one tells world es new (inr (e, is, turn)) h =
+    subst (λ (ds : List Event). InTurn tells world ds) (sym is)
+    (each-push (IsInTurn tells world) es e h (record { goes_on = turn.goes_on; handles = turn.handles; follows = λ t. turn.follows tt }))
 
 pub popped-free : (es new : List Event) → IsFree es → new ≡ es ++ event.Pop ∷ [] → IsFree new
 popped-free es new free is = doing-is es new event.Pop is ∙ free

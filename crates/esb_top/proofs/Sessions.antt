@@ -1,12 +1,19 @@
 -- A session is as promised.
 use Rattle.std.proofs.Common.{◌≡◌, ◌⊎◌, ℕ, ◌+◌, ◌<◌, ◌≤◌, cond, Option, Some, None, Bool, true, false, not, ◌||◌, List, [], ◌∷◌, ◌++◌, inl, inr, refl, sym, ap, subst, ◌∙◌, arith, eqb}
-use Rattle.std.specs.List.{flat_map}
+use Rattle.std.specs.List.{flat_map, list_any}
 use Rattle.std.proofs.lemmas.Bool.{false≢true}
 use Rattle.std.proofs.lemmas.List.Sums.{sum_by-append}
-use Rattle.esb_core.specs.State.{start}
+use Rattle.esb_ask.specs.declared.outcome.Outcome.{Outcome}
+use Rattle.esb_core.specs.State.{State, start}
+use Rattle.esb_core.proofs.Laws.{reads-legal}
+use Rattle.esb_core.proofs.Pushes.{builds-push, or_later-None, outcome-push}
+use Rattle.esb_core.specs.Allowed.{first_job}
+use Rattle.esb_core.specs.declared.event.Role.TheVariants as roles
+use Rattle.esb_base.specs.World.{Folder}
+use Rattle.esb_sound.specs.Serial.{doing}
 use Rattle.esb_core.proofs.Claims.{both_parts}
 use Rattle.esb_core.proofs.Replays.{is_legal_from-append}
-use Rattle.std.specs.Prelude.{Result, Ok, Err, IfOk, OnErr}
+use Rattle.std.specs.Prelude.{Result, Ok, Err, IfOk, IsSome, OnErr, length}
 use Rattle.esb_base.specs.Faults.{Rose}
 use Rattle.esb_base.specs.declared.memory.Memory.{Memory}
 use Rattle.esb_wire.specs.declared.value.Packet.{Packet}
@@ -15,7 +22,7 @@ use Rattle.esb_wire.specs.Stream.{BeginsWithNone}
 use Rattle.esb_wire.specs.Written.{written_frame}
 use Rattle.esb_core.specs.declared.event.Event.{Event}
 use Rattle.esb_core.specs.declared.event.Event.TheVariants as events
-use Rattle.esb_core.specs.History.{is_legal, is_legal_from, replay}
+use Rattle.esb_core.specs.History.{Begun, builds, is_legal, is_legal_from, outcome, owed, replay}
 use Rattle.esb_sound.specs.Sound.{Sound, IsSound}
 use Rattle.esb_sound.specs.Sent.{arrivals, sent, sent_packets}
 use Rattle.esb_sound.specs.Told.{AreTold, IsTold, RoseBy, faults}
@@ -24,17 +31,18 @@ use Rattle.esb_top.specs.declared.session.Ending.TheVariants as endings
 use Rattle.esb_top.specs.Entries.{Entries}
 use Rattle.esb_wire.specs.Budget.{budget}
 use Rattle.esb_wire.specs.Stream.{Counts}
-use Rattle.esb_sound.specs.Serial.{InTurn, IsSerial, input_step, is_lapse, lapses, next}
+use Rattle.esb_sound.specs.Serial.{InTurn, IsSerial, input_step, is_lapse, is_refused, lapses, next}
 use Rattle.esb_sound.proofs.Serial.{all-follow, get-past}
-use Rattle.esb_top.specs.Input.{Begins, EndsBy, HasRead}
+use Rattle.esb_wire.specs.declared.reader.Stop.TheVariants as stops
+use Rattle.esb_top.specs.Input.{Begins, EndsBy, HasRead, IsStopped, stop_of}
 use Rattle.esb_top.specs.Turn.{IsAtRest}
 use Rattle.esb_top.proofs.InOrder.{next-read}
 use Rattle.esb_top.specs.Output.{IsWritten, Wrote, FailedSince}
 use Rattle.esb_top.specs.Serving.{Ends, Outside, Refused, Serving}
-use Rattle.esb_top.specs.Session.{IsSession, IsCutAt, is_whole, status_by, status_if, status_of}
+use Rattle.esb_top.specs.Session.{IsSession, IsCutAt, is_known, is_whole, status_by, status_if, status_of}
 use Rattle.esb_top.specs.Words.{greeting}
 use Rattle.esb_top.specs.Work.{Goes}
-use Rattle.esb_top.proofs.Histories.{list_end, each-push, all-push, arrivals-push, sent-push, faults-push}
+use Rattle.esb_top.proofs.Histories.{replay-push, list_end, each-push, all-push, arrivals-push, sent-push, faults-push}
 use Rattle.esb_top.proofs.Outputs.{wrote-part}
 
 -- ---- the end of the input
@@ -44,6 +52,10 @@ sent-end es fs is = ap sent is ∙ ap (λ (ps : List Packet). flat_map written_f
 
 arrivals-end : (es fs : List Event) → fs ≡ es ++ events.EndOfInput ∷ [] → arrivals fs ≡ arrivals es
 arrivals-end es fs is = ap arrivals is ∙ arrivals-push es events.EndOfInput ∙ list_end (arrivals es)
+
+builds_are_done : (tells : Type 0) (world : List Folder) (events : List Event) → is_legal events ≡ true → InTurn tells world events → doing events ≡ None
+    → first_job (replay events) (roles.Worker 0) ≡ None → (n : ℕ) → n < length (builds events) → IsSome (outcome events n)
+builds_are_done = ?
 
 neither : {A B X : Type 0} → A ⊎ B → (A → X) → (B → X) → X
 neither (inl a) f g = f a
@@ -59,6 +71,11 @@ any-whole ht kt st was now status journal s = record {
   known = s.known;
   legal = s.legal;
   ended = s.ended;
+  empty_or_ended = s.empty_or_ended;
+  none_owed = s.none_owed;
+  settled = s.settled;
+  unrefused = s.unrefused;
+  puts = s.puts;
   sound = s.sound;
   from_host = s.from_host;
   counted = s.counted;
@@ -67,6 +84,7 @@ any-whole ht kt st was now status journal s = record {
   write_fault = s.write_fault;
   read_fault = s.read_fault;
   stream = s.stream;
+  stopped = s.stopped;
   malformed = s.malformed;
   whole_input = s.whole_input;
   reads = s.reads;
@@ -77,15 +95,15 @@ any-whole ht kt st was now status journal s = record {
 }
 
 module _ (ht kt st : Type 0) (was mid : Outside) (old : Entries) (fresh : old.events ≡ []) (same_world : mid.world ≡ was.world) (same_faults : mid.host_faults ≡ was.host_faults) (same_unread : mid.unread ≡ was.unread)
-    (same_source : mid.source_faults ≡ was.source_faults) (same_gave : mid.gave ≡ was.gave) (greeted : Wrote kt was.holds mid.holds greeting mid.whole) (failed : FailedSince was.sink_faults mid.sink_faults mid.whole) (falls : was.sink_faults ≤ mid.sink_faults) where
+    (same_source : mid.source_faults ≡ was.source_faults) (same_gave : mid.gave ≡ was.gave) (same_puts : (path : List ℕ) → mid.puts path ≡ was.puts path) (greeted : Wrote kt was.holds mid.holds greeting mid.whole) (failed : FailedSince was.sink_faults mid.sink_faults mid.whole) (falls : was.sink_faults ≤ mid.sink_faults) where
   start_sound : Sound old.events
   start_sound = subst (λ (es : List Event). Sound es) (sym fresh) tt
 
   start_told : ht → AreTold mid.world old.events
   start_told t = subst (λ (es : List Event). AreTold mid.world es) (sym fresh) tt
 
-  start_turn : ht → InTurn mid.world old.events
-  start_turn t = subst (λ (es : List Event). InTurn mid.world es) (sym fresh) tt
+  start_turn : InTurn ht mid.world old.events
+  start_turn = subst (λ (es : List Event). InTurn ht mid.world es) (sym fresh) tt
 
   start_counted : RoseBy (faults old.events) was.host_faults mid.host_faults
   start_counted = subst (λ (es : List Event). RoseBy (faults es) was.host_faults mid.host_faults) (sym fresh) (inl (omega (arith, same_faults)))
@@ -112,11 +130,11 @@ module _ (ht kt st : Type 0) (was mid : Outside) (old : Entries) (fresh : old.ev
 
     final_serial : is_legal new.events ≡ true → IsAtRest new.events → ht → lapses final ≡ 0 → IsSerial was.world (arrivals final) final
     final_serial legal rest t none =
-        let turn : InTurn was.world new.events = subst (λ w. InTurn w new.events) same_world (goes.in_turn t (start_turn t)) in
+        let turn : InTurn ht was.world new.events = subst (λ w. InTurn ht w new.events) same_world (goes.in_turn start_turn) in
         subst (λ (ps : List Packet). IsSerial was.world ps final) (sym (arrivals-end new.events final is)) record {
           before = new.events;
-          steps = all-follow was.world new.events turn (sym lapses-end ∙ none);
-          last = next-read was.world new.events (arrivals new.events) legal rest ∙ ap (λ (p : Option Packet). Some (input_step p)) (get-past (arrivals new.events));
+          steps = all-follow ht was.world new.events t turn (sym lapses-end ∙ none);
+          last = next-read ht was.world new.events (arrivals new.events) legal rest ∙ ap (λ (p : Option Packet). Some (input_step p)) (get-past (arrivals new.events));
           whole = is;
         }
 
@@ -141,6 +159,11 @@ module _ (ht kt st : Type 0) (was mid : Outside) (old : Entries) (fresh : old.ev
       known = refl;
       legal = legal;
       ended = λ not_five. absurd (not_five refl);
+      empty_or_ended = inr (new.events, is);
+      none_owed = λ not_five. absurd (not_five refl);
+      settled = λ not_five. absurd (not_five refl);
+      unrefused = λ e. absurd cc;
+      puts = λ t path. r.puts t path ∙ same_puts path;
       sound = final_sound;
       from_host = final_told;
       counted = final_counted;
@@ -149,6 +172,7 @@ module _ (ht kt st : Type 0) (was mid : Outside) (old : Entries) (fresh : old.ev
       write_fault = λ e. absurd cc;
       read_fault = λ e. absurd cc;
       stream = λ t. subst (λ (ps : List Packet). Begins was.unread (flat_map frame ps)) (sym (arrivals-end new.events final is)) (r.stream was.unread start_read t);
+      stopped = λ not_five. absurd (not_five refl);
       malformed = λ e. absurd cc;
       whole_input = λ e. absurd cc;
       reads = r.reads;
@@ -170,150 +194,102 @@ module _ (ht kt st : Type 0) (was mid : Outside) (old : Entries) (fresh : old.ev
     legal_before : is_legal final ≡ true → is_legal new.events ≡ true
     legal_before legal = (both_parts (is_legal new.events) (is_legal_from (replay new.events) (events.EndOfInput ∷ [])) (sym (is_legal_from-append start new.events (events.EndOfInput ∷ [])) ∙ ap is_legal (sym is) ∙ legal)).0
 
-    -- a session in which a write failed
-    unwhole : (unread : List ℕ) (reads : ℕ) → (st → was.unread ≡ flat_map frame (arrivals new.events) ++ unread) → is_legal final ≡ true → IsAtRest new.events → HasRead mid.gave now.gave 0 reads → Rose was.sink_faults now.sink_faults
-        → (kt → IsWritten was.holds now.holds (greeting ++ sent new.events) false) → IsSession ht kt st was now 4 final
-    unwhole unread reads read legal rest r rose w = record {
-      known = refl;
+    final_owed : is_legal final ≡ true → IsAtRest new.events → owed final ≡ []
+    final_owed legal rest = sym (reads-legal final legal).owed ∙ ap (λ (es : List Event). (replay es).owed) is ∙ ap (λ (s : State). s.owed) (replay-push new.events events.EndOfInput) ∙ rest.none_owed
+
+    builds-end : builds final ≡ builds new.events
+    builds-end = ap builds is ∙ builds-push new.events events.EndOfInput
+
+    outcome-end : (n : ℕ) → outcome final n ≡ outcome new.events n
+    outcome-end n = ap (λ (es : List Event). outcome es n) is ∙ outcome-push new.events events.EndOfInput n ∙ or_later-None (outcome new.events n)
+
+    final_settled : is_legal final ≡ true → IsAtRest new.events → (n : ℕ) → n < length (builds final) → IsSome (outcome final n)
+    final_settled legal rest n lt =
+        subst (λ (o : Option Outcome). IsSome o) (sym (outcome-end n))
+        (builds_are_done ht mid.world new.events (legal_before legal) (goes.in_turn start_turn) rest.free rest.no_job n (subst (λ (bs : List Begun). n < length bs) builds-end lt))
+
+    -- a session whose input was read to an ending
+    made : (status reads : ℕ) (held : List ℕ) → is_known status ≡ true → is_legal final ≡ true → IsAtRest new.events → HasRead mid.gave now.gave 0 reads
+        → (ht → (path : List ℕ) → now.puts path ≡ mid.puts path) → (st → was.unread ≡ flat_map frame (arrivals new.events) ++ (held ++ now.unread))
+        → ((status ≡ 5 → ⊥) → IsStopped st was.unread final now.unread reads status) → (kt → IsWritten was.holds now.holds (greeting ++ sent final) (is_whole status))
+        → (status ≡ 4 → Rose was.sink_faults now.sink_faults) → (status ≡ 3 → Rose was.source_faults now.source_faults) → (status ≡ 2 → st → IsCutAt was.unread final)
+        → (status ≡ 0 → st → was.unread ≡ flat_map frame (arrivals final)) → (status ≡ 0 → list_any is_refused final ≡ false) → (status ≡ 6 → reads ≡ budget)
+        → ((status ≡ 0) ⊎ (status ≡ 3) → reads < budget) → IsSession ht kt st was now status final
+    made status reads held known legal rest r puts read stopped sends write_fault read_fault malformed whole_input unrefused spent unspent = record {
+      known = known;
+      reads = reads;
       legal = legal;
       ended = λ not_five. (new.events, is);
+      empty_or_ended = inr (new.events, is);
+      none_owed = λ not_five. final_owed legal rest;
+      settled = λ not_five. final_settled legal rest;
+      unrefused = unrefused;
+      puts = λ t path. puts t path ∙ same_puts path;
       sound = final_sound;
       from_host = final_told;
       counted = final_counted;
       serial = λ t not_five none. final_serial (legal_before legal) rest t none;
-      sends = λ t. final_sent false (w t);
-      write_fault = λ e. rose;
-      read_fault = λ e. absurd cc;
-      stream = λ t. record { rest = unread; parts = final_read unread read t };
-      malformed = λ e. absurd cc;
-      whole_input = λ e. absurd cc;
-      reads = reads;
+      sends = sends;
+      write_fault = write_fault;
+      read_fault = read_fault;
+      stream = λ t. record { rest = held ++ now.unread; parts = final_read (held ++ now.unread) read t };
+      stopped = stopped;
+      malformed = malformed;
+      whole_input = whole_input;
       read = final_reads reads r;
       within_budget = in_budget reads r;
-      spent = λ x. absurd cc;
-      unspent = λ x. neither x (λ y. absurd cc) (λ y. absurd cc);
+      spent = spent;
+      unspent = unspent;
     }
 
-    by_ending : (ending : Ending) (refused : Bool) (unread : List ℕ) (reads : ℕ) → is_legal final ≡ true → IsAtRest new.events → HasRead mid.gave now.gave 0 reads
-        → (kt → IsWritten was.holds now.holds (greeting ++ sent new.events) true) → (st → was.unread ≡ flat_map frame (arrivals new.events) ++ unread)
-        → EndsBy st (Rose mid.source_faults now.source_faults) unread reads ending → IsSession ht kt st was now (status_by ending refused) final
-    by_ending endings.ReadFault refused unread reads legal rest r w read e = record {
-      known = refl;
-      legal = legal;
-      ended = λ not_five. (new.events, is);
-      sound = final_sound;
-      from_host = final_told;
-      counted = final_counted;
-      serial = λ t not_five none. final_serial (legal_before legal) rest t none;
-      sends = λ t. final_sent true (w t);
-      write_fault = λ x. absurd cc;
-      read_fault = λ x. rose_source e.0;
-      stream = λ t. record { rest = unread; parts = final_read unread read t };
-      malformed = λ x. absurd cc;
-      whole_input = λ x. absurd cc;
-      reads = reads;
-      read = final_reads reads r;
-      within_budget = in_budget reads r;
-      spent = λ x. absurd cc;
-      unspent = λ x. e.1;
-    }
-    by_ending endings.Malformed refused unread reads legal rest r w read e = record {
-      known = refl;
-      legal = legal;
-      ended = λ not_five. (new.events, is);
-      sound = final_sound;
-      from_host = final_told;
-      counted = final_counted;
-      serial = λ t not_five none. final_serial (legal_before legal) rest t none;
-      sends = λ t. final_sent true (w t);
-      write_fault = λ x. absurd cc;
-      read_fault = λ x. absurd cc;
-      stream = λ t. record { rest = unread; parts = final_read unread read t };
-      malformed = λ x. cut unread read e;
-      whole_input = λ x. absurd cc;
-      reads = reads;
-      read = final_reads reads r;
-      within_budget = in_budget reads r;
-      spent = λ x. absurd cc;
-      unspent = λ x. neither x (λ y. absurd cc) (λ y. absurd cc);
-    }
-    by_ending endings.Budget refused unread reads legal rest r w read e = record {
-      known = refl;
-      legal = legal;
-      ended = λ not_five. (new.events, is);
-      sound = final_sound;
-      from_host = final_told;
-      counted = final_counted;
-      serial = λ t not_five none. final_serial (legal_before legal) rest t none;
-      sends = λ t. final_sent true (w t);
-      write_fault = λ x. absurd cc;
-      read_fault = λ x. absurd cc;
-      stream = λ t. record { rest = unread; parts = final_read unread read t };
-      malformed = λ x. absurd cc;
-      whole_input = λ x. absurd cc;
-      reads = reads;
-      read = final_reads reads r;
-      within_budget = in_budget reads r;
-      spent = λ x. e;
-      unspent = λ x. neither x (λ y. absurd cc) (λ y. absurd cc);
-    }
-    by_ending endings.Done true unread reads legal rest r w read e = record {
-      known = refl;
-      legal = legal;
-      ended = λ not_five. (new.events, is);
-      sound = final_sound;
-      from_host = final_told;
-      counted = final_counted;
-      serial = λ t not_five. absurd (not_five refl);
-      sends = λ t. wrote-part was.holds now.holds (greeting ++ sent final) true (final_sent true (w t));
-      write_fault = λ x. absurd cc;
-      read_fault = λ x. absurd cc;
-      stream = λ t. record { rest = unread; parts = final_read unread read t };
-      malformed = λ x. absurd cc;
-      whole_input = λ x. absurd cc;
-      reads = reads;
-      read = final_reads reads r;
-      within_budget = in_budget reads r;
-      spent = λ x. absurd cc;
-      unspent = λ x. neither x (λ y. absurd cc) (λ y. absurd cc);
-    }
-    by_ending endings.Done false unread reads legal rest r w read e = record {
-      known = refl;
-      legal = legal;
-      ended = λ not_five. (new.events, is);
-      sound = final_sound;
-      from_host = final_told;
-      counted = final_counted;
-      serial = λ t not_five none. final_serial (legal_before legal) rest t none;
-      sends = λ t. final_sent true (w t);
-      write_fault = λ x. absurd cc;
-      read_fault = λ x. absurd cc;
-      stream = λ t. record { rest = unread; parts = final_read unread read t };
-      malformed = λ x. absurd cc;
-      whole_input = λ x. all_read unread read e.0;
-      reads = reads;
-      read = final_reads reads r;
-      within_budget = in_budget reads r;
-      spent = λ x. absurd cc;
-      unspent = λ x. e.1;
-    }
+    by_ending : (ending : Ending) (refused : Bool) (held : List ℕ) (reads : ℕ) → refused ≡ list_any is_refused final → is_legal final ≡ true → IsAtRest new.events
+        → HasRead mid.gave now.gave 0 reads → (ht → (path : List ℕ) → now.puts path ≡ mid.puts path) → (kt → IsWritten was.holds now.holds (greeting ++ sent new.events) true)
+        → (st → was.unread ≡ flat_map frame (arrivals new.events) ++ (held ++ now.unread)) → EndsBy st (Rose mid.source_faults now.source_faults) (held ++ now.unread) held reads ending
+        → IsSession ht kt st was now (status_by ending refused) final
+    by_ending endings.ReadFault refused held reads flag legal rest r puts w read e =
+        made 3 reads held refl legal rest r puts read
+        (λ five. record { held = held; stop = stops.ReadFault; parts = final_read (held ++ now.unread) read; judged = e.1; by = λ four. refl })
+        (λ t. final_sent true (w t)) (λ x. absurd cc) (λ x. rose_source e.0) (λ x. absurd cc) (λ x. absurd cc) (λ x. absurd cc) (λ x. absurd cc) (λ x. e.1.1)
+    by_ending endings.Malformed refused held reads flag legal rest r puts w read e =
+        made 2 reads held refl legal rest r puts read
+        (λ five. record { held = held; stop = stops.Malformed; parts = final_read (held ++ now.unread) read; judged = e.1; by = λ four. refl })
+        (λ t. final_sent true (w t)) (λ x. absurd cc) (λ x. absurd cc) (λ x. cut (held ++ now.unread) read e.0) (λ x. absurd cc) (λ x. absurd cc) (λ x. absurd cc)
+        (λ x. neither x (λ y. absurd cc) (λ y. absurd cc))
+    by_ending endings.Budget refused held reads flag legal rest r puts w read e =
+        made 6 reads held refl legal rest r puts read
+        (λ five. record { held = held; stop = stops.Budget; parts = final_read (held ++ now.unread) read; judged = e.1; by = λ four. refl })
+        (λ t. final_sent true (w t)) (λ x. absurd cc) (λ x. absurd cc) (λ x. absurd cc) (λ x. absurd cc) (λ x. absurd cc) (λ x. e.0.0)
+        (λ x. neither x (λ y. absurd cc) (λ y. absurd cc))
+    by_ending endings.Done true held reads flag legal rest r puts w read e =
+        made 5 reads held refl legal rest r puts read (λ five. absurd (five refl))
+        (λ t. wrote-part was.holds now.holds (greeting ++ sent final) true (final_sent true (w t))) (λ x. absurd cc) (λ x. absurd cc) (λ x. absurd cc) (λ x. absurd cc) (λ x. absurd cc)
+        (λ x. absurd cc) (λ x. neither x (λ y. absurd cc) (λ y. absurd cc))
+    by_ending endings.Done false held reads flag legal rest r puts w read e =
+        made 0 reads held refl legal rest r puts read
+        (λ five. record { held = held; stop = stops.End; parts = final_read (held ++ now.unread) read; judged = e.1; by = λ four. refl })
+        (λ t. final_sent true (w t)) (λ x. absurd cc) (λ x. absurd cc) (λ x. absurd cc) (λ x. all_read (held ++ now.unread) read e.0) (λ x. sym flag) (λ x. absurd cc) (λ x. e.1.1)
 
-    if_whole : (whole : Bool) (ending : Ending) (refused : Bool) (unread : List ℕ) (reads : ℕ) → is_legal final ≡ true → IsAtRest new.events → HasRead mid.gave now.gave 0 reads
-        → FailedSince was.sink_faults now.sink_faults whole → (kt → IsWritten was.holds now.holds (greeting ++ sent new.events) whole)
-        → (st → was.unread ≡ flat_map frame (arrivals new.events) ++ unread) → EndsBy st (Rose mid.source_faults now.source_faults) unread reads ending
-        → IsSession ht kt st was now (status_if whole ending refused) final
-    if_whole false ending refused unread reads legal rest r fell w read e = unwhole unread reads read legal rest r (fell refl) w
-    if_whole true ending refused unread reads legal rest r fell w read e = by_ending ending refused unread reads legal rest r w read e
+    if_whole : (whole : Bool) (ending : Ending) (refused : Bool) (held : List ℕ) (reads : ℕ) → refused ≡ list_any is_refused final → is_legal final ≡ true → IsAtRest new.events
+        → HasRead mid.gave now.gave 0 reads → (ht → (path : List ℕ) → now.puts path ≡ mid.puts path) → FailedSince was.sink_faults now.sink_faults whole
+        → (kt → IsWritten was.holds now.holds (greeting ++ sent new.events) whole) → (st → was.unread ≡ flat_map frame (arrivals new.events) ++ (held ++ now.unread))
+        → EndsBy st (Rose mid.source_faults now.source_faults) (held ++ now.unread) held reads ending → IsSession ht kt st was now (status_if whole ending refused) final
+    if_whole false ending refused held reads flag legal rest r puts fell w read e =
+        made 4 reads held refl legal rest r puts read
+        (λ five. record { held = held; stop = stop_of ending; parts = final_read (held ++ now.unread) read; judged = e.1; by = λ four. absurd (four refl) })
+        (λ t. final_sent false (w t)) (λ x. fell refl) (λ x. absurd cc) (λ x. absurd cc) (λ x. absurd cc) (λ x. absurd cc) (λ x. absurd cc)
+        (λ x. neither x (λ y. absurd cc) (λ y. absurd cc))
+    if_whole true ending refused held reads flag legal rest r puts fell w read e = by_ending ending refused held reads flag legal rest r puts w read e
 
-    pub session-ok : (ending : Ending) (refused : Bool) → is_legal final ≡ true → Ends ht kt st mid now old new ending → IsSession ht kt st was now (status_if now.whole ending refused) final
-    session-ok ending refused legal e =
-        if_whole now.whole ending refused e.unread e.reads legal e.rests e.read (e.serving.failed was.sink_faults falls failed) (e.serving.wrote was.holds greeting start_wrote)
+    pub session-ok : (ending : Ending) (refused : Bool) → refused ≡ list_any is_refused final → is_legal final ≡ true → Ends ht kt st mid now old new ending
+        → IsSession ht kt st was now (status_if now.whole ending refused) final
+    session-ok ending refused flag legal e =
+        if_whole now.whole ending refused e.held e.reads flag legal e.rests e.read e.serving.puts (e.serving.failed was.sink_faults falls failed) (e.serving.wrote was.holds greeting start_wrote)
         (e.serving.stream was.unread start_read) e.ends
 
-  pub session-any : (new : Entries) (final : List Event) (now : Outside) (result : Result Ending Memory) (refused : Bool) → final ≡ new.events ++ events.EndOfInput ∷ [] → is_legal final ≡ true
+  pub session-any : (new : Entries) (final : List Event) (now : Outside) (result : Result Ending Memory) (refused : Bool) → refused ≡ list_any is_refused final → final ≡ new.events ++ events.EndOfInput ∷ [] → is_legal final ≡ true
       → IfOk result (λ ending. Ends ht kt st mid now old new ending) → OnErr result (Refused ht kt st mid now old new) → IsSession ht kt st was (record now { whole = true }) (status_of result now.whole refused) final
-  session-any new final now (Ok ending) refused is legal ok err = any-whole ht kt st was now _ final (session-ok new final now is ok.serving.goes ending refused legal ok)
-  session-any new final now (Err refusal) refused is legal ok err = any-whole ht kt st was now _ final (session-refused new final now is err.goes legal err)
+  session-any new final now (Ok ending) refused flag is legal ok err = any-whole ht kt st was now _ final (session-ok new final now is ok.serving.goes ending refused flag legal ok)
+  session-any new final now (Err refusal) refused flag is legal ok err = any-whole ht kt st was now _ final (session-refused new final now is err.goes legal err)
 
 -- a session that never began, for want of memory
 pub session-none : (ht kt st : Type 0) (was : Outside) (journal : List Event) → journal ≡ [] → IsSession ht kt st was was 5 journal
@@ -321,6 +297,11 @@ session-none ht kt st was journal none = subst (λ (es : List Event). IsSession 
   known = refl;
   legal = refl;
   ended = λ not_five. absurd (not_five refl);
+  empty_or_ended = inl refl;
+  none_owed = λ not_five. absurd (not_five refl);
+  settled = λ not_five. absurd (not_five refl);
+  unrefused = λ e. absurd cc;
+  puts = λ t path. refl;
   sound = tt;
   from_host = λ t. tt;
   counted = inl (omega arith);
@@ -329,6 +310,7 @@ session-none ht kt st was journal none = subst (λ (es : List Event). IsSession 
   write_fault = λ e. absurd cc;
   read_fault = λ e. absurd cc;
   stream = λ t. record { rest = was.unread; parts = refl };
+  stopped = λ not_five. absurd (not_five refl);
   malformed = λ e. absurd cc;
   whole_input = λ e. absurd cc;
   reads = 0;

@@ -1,5 +1,5 @@
 -- What the turns of a session leave.
-use Rattle.std.proofs.Common.{◌≡◌, ◌⊎◌, ℕ, ◌+◌, ◌-◌, ◌^◌, ◌<◌, ◌≤◌, Bool, true, false, cond, List, [], ◌∷◌, ◌++◌, inl, inr, refl, sym, ap, subst, ◌∙◌, arith}
+use Rattle.std.proofs.Common.{Some, ◌≡◌, ◌⊎◌, ℕ, ◌+◌, ◌-◌, ◌^◌, ◌<◌, ◌≤◌, Bool, true, false, cond, List, [], ◌∷◌, ◌++◌, inl, inr, refl, sym, ap, subst, ◌∙◌, arith}
 use Rattle.std.proofs.Common.{Result, Ok, Err}
 use Rattle.std.specs.Prelude.{IfOk}
 use Rattle.std.specs.List.{flat_map}
@@ -12,7 +12,8 @@ use Rattle.esb_core.specs.declared.event.Event.TheVariants as events
 use Rattle.esb_core.specs.State.{State}
 use Rattle.esb_core.specs.Steps.{after, after_command}
 use Rattle.esb_core.specs.History.{replay}
-use Rattle.esb_sound.specs.Serial.{InTurn, IsInTurn}
+use Rattle.esb_sound.specs.Each.{Each-from}
+use Rattle.esb_sound.specs.Serial.{InTurn, IsInTurn, next}
 use Rattle.esb_sound.specs.Sound.{Sound, IsSound}
 use Rattle.esb_sound.specs.Sent.{arrivals, sent, sent_packets}
 use Rattle.esb_sound.specs.Told.{AreTold, IsTold, RoseBy, faults}
@@ -29,13 +30,13 @@ use Rattle.esb_top.proofs.Histories.{list_end, each-push, all-push, arrivals-pus
 
 module _ (tells : Type 0) (world : List Folder) where
   pub goes-refl : (f : ℕ) (es : List Event) → Goes tells world f f es es
-  goes-refl f es = record { sound = λ h. h; from_host = λ t h. h; in_turn = λ t h. h; counted = λ start h. h; ended = refl }
+  goes-refl f es = record { sound = λ h. h; from_host = λ t h. h; in_turn = λ h. h; counted = λ start h. h; ended = refl }
 
   pub goes-trans : (a b c : ℕ) (es fs gs : List Event) → Goes tells world a b es fs → Goes tells world b c fs gs → Goes tells world a c es gs
   goes-trans a b c es fs gs v w = record {
     sound = λ h. w.sound (v.sound h);
     from_host = λ t h. w.from_host t (v.from_host t h);
-    in_turn = λ t h. w.in_turn t (v.in_turn t h);
+    in_turn = λ h. w.in_turn (v.in_turn h);
     counted = λ start h. w.counted start (v.counted start h);
     ended = w.ended ∙ v.ended;
   }
@@ -44,23 +45,23 @@ module _ (tells : Type 0) (world : List Folder) where
   goes-worked a b es fs w = record { sound = w.sound; from_host = w.from_host; in_turn = w.in_turn; counted = w.counted; ended = w.ended }
 
   -- an event of the outside
-  goes-push : (f : ℕ) (es fs : List Event) (e : Event) → fs ≡ es ++ e ∷ [] → IsSound es e → IsTold world e → (InTurn world es → InTurn world fs) → faults (es ++ e ∷ []) ≡ faults es → (after (replay es) e).ended ≡ (replay es).ended → Goes tells world f f es fs
+  goes-push : (f : ℕ) (es fs : List Event) (e : Event) → fs ≡ es ++ e ∷ [] → IsSound es e → IsTold world e → (InTurn tells world es → InTurn tells world fs) → faults (es ++ e ∷ []) ≡ faults es → (after (replay es) e).ended ≡ (replay es).ended → Goes tells world f f es fs
   goes-push f es fs e is sound told turn none ended = subst (λ (ds : List Event). Goes tells world f f es ds) (sym is) record {
     sound = λ h. each-push IsSound es e h sound;
     from_host = λ t h. all-push (IsTold world) es e h told;
-    in_turn = λ t h. subst (λ (ds : List Event). InTurn world ds) is (turn h);
+    in_turn = λ h. subst (λ (ds : List Event). InTurn tells world ds) is (turn h);
     counted = λ start h. subst (λ (k : ℕ). RoseBy k start f) (sym none) h;
     ended = ap (λ (s : State). s.ended) (replay-push es e) ∙ ended;
   }
 
-  pub goes-pops : (f : ℕ) (es fs : List Event) → PopsOne es fs → (InTurn world es → InTurn world fs) → Goes tells world f f es fs
+  pub goes-pops : (f : ℕ) (es fs : List Event) → PopsOne es fs → (InTurn tells world es → InTurn tells world fs) → Goes tells world f f es fs
   goes-pops f es fs (inl is) turn = subst (λ (ds : List Event). Goes tells world f f es ds) (sym is) (goes-refl f es)
   goes-pops f es fs (inr is) turn = goes-push f es fs events.Pop is tt tt turn (faults-push es events.Pop ∙ omega arith) refl
 
   arrive-ended : (s : State) (p : Packet) → (after s (events.Arrive p)).ended ≡ s.ended
   arrive-ended s p = grind (arith)
 
-  pub goes-arrives : (f : ℕ) (es fs : List Event) → ArrivesOne es fs → (InTurn world es → InTurn world fs) → Goes tells world f f es fs
+  pub goes-arrives : (f : ℕ) (es fs : List Event) → ArrivesOne es fs → (InTurn tells world es → InTurn tells world fs) → Goes tells world f f es fs
   goes-arrives f es fs (inl is) turn = subst (λ (ds : List Event). Goes tells world f f es ds) (sym is) (goes-refl f es)
   goes-arrives f es fs (inr h) turn = goes-push f es fs (events.Arrive h.0) h.1 tt tt turn (faults-push es (events.Arrive h.0) ∙ omega arith) (arrive-ended (replay es) h.0)
 
@@ -83,6 +84,18 @@ if_ok (Err e) P h = tt
 pub if_ok-map : {X E : Type 0} (r : Result X E) (P Q : X → Type 0) → ((x : X) → P x → Q x) → IfOk r P → IfOk r Q
 if_ok-map (Ok x) P Q h p = h x p
 if_ok-map (Err e) P Q h p = tt
+
+-- the same of a world that is told as another
+in-world : (tells : Type 0) (world other : List Folder) → (tells → world ≡ other) → (before es : List Event) → Each-from (IsInTurn tells world) before es → Each-from (IsInTurn tells other) before es
+in-world tells world other same before [] all = tt
+in-world tells world other same before (e ∷ es) all = (
+  record {
+    goes_on = all.0.goes_on;
+    handles = all.0.handles;
+    follows = λ t lapse packets arrives. subst (λ (w : List Folder). next w packets before ≡ Some e) (same t) (all.0.follows t lapse packets arrives);
+  },
+  in-world tells world other same (before ++ e ∷ []) es all.1,
+)
 
 -- ---- reads
 
@@ -107,12 +120,14 @@ pub record RefusedNow (ht kt : Type 0) (was now : Outside) (old new : Entries) :
   pub sink_falls : was.sink_faults ≤ now.sink_faults
   pub source_falls : was.source_faults ≤ now.source_faults
   pub arrived : arrivals new.events ≡ arrivals old.events
+  pub puts : ht → (path : List ℕ) → now.puts path ≡ was.puts path
 
 module _ (ht kt st : Type 0) where
   pub serving-refl : (was : Outside) (old : Entries) → Serving ht kt st was was old old
   serving-refl was old = record {
     goes = goes-refl ht was.world was.host_faults old.events;
     world = λ t. refl;
+    puts = λ t path. refl;
     room = omega arith;
     wrote = λ before front w. w;
     failed = λ start le f. f;
@@ -124,7 +139,7 @@ module _ (ht kt st : Type 0) where
   along : (world world' : List Folder) (a b : ℕ) (es fs : List Event) → (ht → world' ≡ world) → Goes ht world' a b es fs → Goes ht world a b es fs
   along world world' a b es fs same g = record {
     sound = g.sound;
-    in_turn = λ t h. subst (λ (w : List Folder). InTurn w fs) (same t) (g.in_turn t (subst (λ (w : List Folder). InTurn w es) (sym (same t)) h));
+    in_turn = λ h. in-world ht world' world same [] fs (g.in_turn (in-world ht world world' (λ t. sym (same t)) [] es h));
     from_host = λ t h. subst (λ (w : List Folder). AreTold w fs) (same t) (g.from_host t (subst (λ (w : List Folder). AreTold w es) (sym (same t)) h));
     counted = g.counted;
     ended = g.ended;
@@ -134,6 +149,7 @@ module _ (ht kt st : Type 0) where
   serving-trans was mid now old between new v w = record {
     goes = goes-trans ht was.world was.host_faults mid.host_faults now.host_faults old.events between.events new.events v.goes (along was.world mid.world mid.host_faults now.host_faults between.events new.events v.world w.goes);
     world = λ t. w.world t ∙ v.world t;
+    puts = λ t path. w.puts t path ∙ v.puts t path;
     room = let a = v.room in let b = w.room in omega arith;
     wrote = λ before front h. w.wrote before front (v.wrote before front h);
     failed = λ start le f. w.failed start (let a = v.sink_falls in omega (arith, le)) (v.failed start le f);
@@ -145,6 +161,7 @@ module _ (ht kt st : Type 0) where
   pub refused-trans : (was mid now : Outside) (old between new : Entries) (reads_old reads_new : ℕ) → Serving ht kt st was mid old between → HasRead was.gave mid.gave 0 reads_old → HasRead mid.gave now.gave reads_old reads_new
       → RefusedNow ht kt mid now between new → Refused ht kt st was now old new
   refused-trans was mid now old between new reads_old reads_new v r r' w = record {
+    puts = λ t path. w.puts t path ∙ v.puts t path;
     stream = λ all r t. record { rest = mid.unread; parts = v.stream all r t ∙ ap (λ (ps : List Packet). flat_map frame ps ++ mid.unread) (sym w.arrived) };
     reads = reads_new;
     read = read-trans was.gave mid.gave now.gave 0 reads_old reads_new r r';
@@ -160,8 +177,8 @@ rose-earlier was mid now le (inl more) = inl (omega arith)
 rose-earlier was mid now le (inr most) = inr most
 
 -- a cause since a later moment is one since an earlier
-pub ends-earlier : (tells : Type 0) (was mid now : ℕ) (unread : List ℕ) (reads : ℕ) (ending : Ending) → was ≤ mid → EndsBy tells (Rose mid now) unread reads ending → EndsBy tells (Rose was now) unread reads ending
-ends-earlier tells was mid now unread reads endings.Done le h = h
-ends-earlier tells was mid now unread reads endings.Malformed le h = h
-ends-earlier tells was mid now unread reads endings.ReadFault le h = (rose-earlier was mid now le h.0, h.1)
-ends-earlier tells was mid now unread reads endings.Budget le h = h
+pub ends-earlier : (tells : Type 0) (was mid now : ℕ) (unread held : List ℕ) (reads : ℕ) (ending : Ending) → was ≤ mid → EndsBy tells (Rose mid now) unread held reads ending → EndsBy tells (Rose was now) unread held reads ending
+ends-earlier tells was mid now unread held reads endings.Done le h = h
+ends-earlier tells was mid now unread held reads endings.Malformed le h = h
+ends-earlier tells was mid now unread held reads endings.ReadFault le h = (rose-earlier was mid now le h.0, h.1)
+ends-earlier tells was mid now unread held reads endings.Budget le h = h

@@ -118,7 +118,7 @@ asked-step tells world fo fn old new n q t options legal at same asks in_hand go
             claimed = at.claimed;
             on_trail = ap (λ (qs : List Question). list_any (same_question q) qs) trail_is ∙ ap (λ b. b || false) (same-refl q);
           })
-          got.from_host (λ h. record-in_turn world old.events n t q got.answer in_hand asks_now (got.from_host h)) (λ e. got.fault (fault-is got.answer e)) le;
+          got.from_host (record-in_turn tells world old.events n t q got.answer in_hand asks_now got.from_host) (λ e. got.fault (fault-is got.answer e)) le;
       room = got.added.room;
     }
 
@@ -131,21 +131,21 @@ delivered-step tells world f old new n t p options legal same given in_hand is =
     let done_now : run (build old.events n).options (table old.events n) t ≡ runs.Done p =
     ap (λ (o : Options). run o (table old.events n) t) (options-are old.events n legal ∙ same) ∙ ap (λ (tb : List (Question × Answer)). run options tb t) (table-is old.events n legal) ∙ given in
     worked-push tells world f f old.events new (event.Deliver 0 n t p) is (record { none_arrived = refl; none_sent = λ g. refl; goes_on = λ s. refl })
-    (λ h. done_now) (λ h. tt) (λ h. deliver-in_turn world old.events n t p in_hand done_now) (λ e. absurd (false≢true e)) (omega arith)
+    (λ h. done_now) (λ h. tt) (deliver-in_turn tells world old.events n t p in_hand done_now) (λ e. absurd (false≢true e)) (omega arith)
 
 pub settled-step : (tells : Type 0) (world : List Folder) (f : ℕ) (old : Entries) (new : List Event) (n : ℕ) (o : Outcome) → is_legal old.events ≡ true
     → IsLinked (build_at (replay old.events).builds n).options (build_at (replay old.events).builds n).table o
-    → (IsLinked (build old.events n).options (table old.events n) o → IsInTurn world old.events (event.Settle 0 n o)) → new ≡ old.events ++ event.Settle 0 n o ∷ [] → Worked tells world f f old.events new
+    → (IsLinked (build old.events n).options (table old.events n) o → IsInTurn tells world old.events (event.Settle 0 n o)) → new ≡ old.events ++ event.Settle 0 n o ∷ [] → Worked tells world f f old.events new
 settled-step tells world f old new n o legal right turn is =
     let right_now : IsLinked (build old.events n).options (table old.events n) o =
     subst (λ (op : Options). IsLinked op (table old.events n) o) (sym (options-are old.events n legal)) (subst (λ (tb : List (Question × Answer)). IsLinked (build_at (replay old.events).builds n).options tb o) (sym (table-is old.events n legal)) right) in
     worked-push tells world f f old.events new (event.Settle 0 n o) is (record { none_arrived = refl; none_sent = λ g. refl; goes_on = λ s. refl })
-    (λ h. right_now) (λ h. tt) (λ h. turn right_now) (λ e. absurd (false≢true e)) (omega arith)
+    (λ h. right_now) (λ h. tt) (turn right_now) (λ e. absurd (false≢true e)) (omega arith)
 
 -- a build that is settled for want of memory
-pub given_up-step : (tells : Type 0) (world : List Folder) (f : ℕ) (old : Entries) (new : List Event) (n : ℕ) → is_legal old.events ≡ true → new ≡ old.events ++ event.Settle 0 n outcomes.Memory ∷ []
+pub given_up-step : (tells : Type 0) (world : List Folder) (f : ℕ) (old : Entries) (new : List Event) (n : ℕ) (t : Task) → is_legal old.events ≡ true → doing old.events ≡ Some (job.Scan n t) → new ≡ old.events ++ event.Settle 0 n outcomes.Memory ∷ []
     → Worked tells world f f old.events new
-given_up-step tells world f old new n legal is = settled-step tells world f old new n outcomes.Memory legal tt (λ r. refusal-in_turn world old.events n) is
+given_up-step tells world f old new n t legal in_hand is = settled-step tells world f old new n outcomes.Memory legal tt (λ r. refusal-in_turn tells world old.events n (inr (t, in_hand))) is
 
 both : (a b : Bool) → a ≡ true → b ≡ true → (a && b) ≡ true
 both a b e f = rw (e, f) refl
@@ -203,7 +203,7 @@ pub record IsNextJob (es : List Event) (j : Job) : Type 0 where
 
 pub claimed-step : (tells : Type 0) (world : List Folder) (f : ℕ) (es new : List Event) (j : Job) → IsNextJob es j → new ≡ es ++ event.Claim (role.Worker 0) j ∷ [] → Worked tells world f f es new
 claimed-step tells world f es new j may is =
-    worked-push tells world f f es new (event.Claim (role.Worker 0) j) is (claim-work j) (λ h. tt) (λ t. tt) (λ t. claim-in_turn world es j may.legal may.free may.none_owed may.first)
+    worked-push tells world f f es new (event.Claim (role.Worker 0) j) is (claim-work j) (λ h. tt) (λ t. tt) (claim-in_turn tells world es j may.legal may.free may.none_owed may.first)
     (λ e. absurd (false≢true e)) (omega arith)
 
 same_job-refl : (j : Job) → same_job j j ≡ true
@@ -266,7 +266,7 @@ pub linked-step : (tells : Type 0) (world : List Folder) (f : ℕ) (es : List Ev
     → Linked mid new n → Worked tells world f f es new.events
 linked-step tells world f es mid new n may is l =
     worked-trans tells world f f f es mid.events new.events (claimed-step tells world f es mid.events (job.Link n) may is)
-    (settled-step tells world f mid new.events n l.outcome l.legal l.right (settle-in_turn world mid.events n l.outcome (doing-is es mid.events (event.Claim (role.Worker 0) (job.Link n)) is)) l.added)
+    (settled-step tells world f mid new.events n l.outcome l.legal l.right (settle-in_turn tells world mid.events n l.outcome (doing-is es mid.events (event.Claim (role.Worker 0) (job.Link n)) is)) l.added)
 
 pub linked-by : (old new : Entries) (n : ℕ) (o : Outcome) → is_legal old.events ≡ true → IsLinked (build_at (replay old.events).builds n).options (build_at (replay old.events).builds n).table o
     → AddedWithin old new (event.Settle 0 n o) ⊎ AddedWithin old new (event.Settle 0 n outcomes.Memory) → Linked old new n

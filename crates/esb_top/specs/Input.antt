@@ -1,9 +1,11 @@
 -- What was read of a source.
-use Rattle.std.specs.Prelude.{◌≡◌, ◌⊎◌, ℕ, ◌<◌, ◌≤◌, List, [], ◌∷◌, ◌++◌}
+use Rattle.std.specs.Prelude.{◌≡◌, ◌⊎◌, ℕ, ◌≤◌, List, [], ◌∷◌, ◌++◌}
 use Rattle.std.specs.List.{flat_map}
 use Rattle.esb_wire.specs.declared.value.Packet.{Packet}
 use Rattle.esb_wire.specs.Spelling.{frame}
-use Rattle.esb_wire.specs.Stream.{BeginsWithNone, Counts}
+use Rattle.esb_wire.specs.declared.reader.Stop.{Stop}
+use Rattle.esb_wire.specs.declared.reader.Stop.TheVariants as stops
+use Rattle.esb_wire.specs.Stream.{Counts, JudgedBy, StopsBy}
 use Rattle.esb_wire.specs.Budget.{budget}
 use Rattle.esb_core.specs.declared.event.Event.{Event}
 use Rattle.esb_core.specs.declared.event.Event.TheVariants as events
@@ -24,12 +26,33 @@ pub record Begins (whole front : List ℕ) : Type 0 where
   pub rest : List ℕ
   pub parts : whole ≡ front ++ rest
 
+-- why a reader stopped, by the ending of a session
+abbrev pub stop_of : Ending → Stop
+stop_of endings.Done = stops.End
+stop_of endings.Malformed = stops.Malformed
+stop_of endings.ReadFault = stops.ReadFault
+stop_of endings.Budget = stops.Budget
+
 -- why no packet is read any more: the input ended behind a packet, no packet stands there, a read failed, or 2^40 reads gave a byte
-abbrev pub EndsBy : Type 0 → Type 0 → List ℕ → ℕ → Ending → Type 0
-EndsBy tells rose unread reads endings.Done = (tells → unread ≡ []) × (reads < budget)
-EndsBy tells rose unread reads endings.Malformed = tells → BeginsWithNone unread × (unread ≡ [] → ⊥)
-EndsBy tells rose unread reads endings.ReadFault = rose × (reads < budget)
-EndsBy tells rose unread reads endings.Budget = reads ≡ budget
+abbrev pub EndsBy : Type 0 → Type 0 → List ℕ → List ℕ → ℕ → Ending → Type 0
+EndsBy tells rose unread held reads ending = StopsBy tells rose unread held reads (stop_of ending) × JudgedBy held reads (stop_of ending)
+
+-- the status of a session in which no write failed and no memory was refused
+abbrev pub status_at : Stop → ℕ
+status_at stops.End = 0
+status_at stops.Malformed = 2
+status_at stops.ReadFault = 3
+status_at stops.Budget = 6
+status_at stops.Memory = 5
+
+-- Where the reading stopped: what was read behind the last packet that arrived, and why no more was.
+pub record IsStopped (tells : Type 0) (all : List ℕ) (journal : List Event) (left : List ℕ) (reads status : ℕ) : Type 0 where
+  pub held : List ℕ
+  pub stop : Stop
+  pub parts : tells → all ≡ flat_map frame (arrivals journal) ++ (held ++ left)
+  pub judged : JudgedBy held reads stop
+  -- a failed write goes before
+  pub by : (status ≡ 4 → ⊥) → status ≡ status_at stop
 
 -- The reads of a source that gave a byte: so many more, and none above the budget.
 pub record HasRead (gave_old gave_new reads_old reads_new : ℕ) : Type 0 where

@@ -28,6 +28,12 @@ Wrote tells before now bytes whole = tells → IsWritten before now bytes whole
 abbrev pub FailedSince : ℕ → ℕ → Bool → Type 0
 FailedSince start now whole = whole ≡ false → Rose start now
 
+-- bytes were written, unless a write failed
+pub record IsPut (tells : Type 0) (holds_old holds_new : List ℕ) (faults_old faults_new : ℕ) (bytes : List ℕ) : Type 0 where
+  pub whole : Bool
+  pub wrote : Wrote tells holds_old holds_new bytes whole
+  pub failed : FailedSince faults_old faults_new whole
+
 -- the packet of what is owed, by the builds
 abbrev pub packet_in_body : List Building → ℕ → Body → Packet
 packet_in_body builds id (bodies.Result n) = packet_for (outs.Reply id (bodies.Result n)) (build_at builds n).options.write (build_at builds n).outcome

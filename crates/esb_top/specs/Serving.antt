@@ -17,6 +17,7 @@ use Rattle.esb_top.specs.Work.{Goes}
 pub record Outside : Type 0 where
   pub world : List Folder
   pub host_faults : ℕ
+  pub puts : List ℕ → Option (List ℕ)
   pub holds : List ℕ
   pub sink_faults : ℕ
   pub whole : Bool
@@ -29,6 +30,7 @@ pub record Outside : Type 0 where
 pub record Serving (host_tells sink_tells source_tells : Type 0) (was now : Outside) (old new : Entries) : Type 0 where
   pub goes : Goes host_tells was.world was.host_faults now.host_faults old.events new.events
   pub world : host_tells → now.world ≡ was.world
+  pub puts : host_tells → (path : List ℕ) → now.puts path ≡ was.puts path
   pub room : old.promised ≤ new.promised
   pub wrote : (before front : List ℕ) → Wrote sink_tells before was.holds (front ++ sent old.events) was.whole → Wrote sink_tells before now.holds (front ++ sent new.events) now.whole
   pub failed : (start : ℕ) → start ≤ was.sink_faults → FailedSince start was.sink_faults was.whole → FailedSince start now.sink_faults now.whole
@@ -43,6 +45,7 @@ pub record Refused (host_tells sink_tells source_tells : Type 0) (was now : Outs
   pub wrote : (before front : List ℕ) → Wrote sink_tells before was.holds (front ++ sent old.events) was.whole → Wrote sink_tells before now.holds (front ++ sent new.events) false
   pub sink_falls : was.sink_faults ≤ now.sink_faults
   pub source_falls : was.source_faults ≤ now.source_faults
+  pub puts : host_tells → (path : List ℕ) → now.puts path ≡ was.puts path
   pub stream : (all : List ℕ) → IsRead source_tells all old.events was.unread → source_tells → Begins all (flat_map frame (arrivals new.events))
   pub reads : ℕ
   pub read : HasRead was.gave now.gave 0 reads
@@ -50,9 +53,9 @@ pub record Refused (host_tells sink_tells source_tells : Type 0) (was now : Outs
 -- a session whose input was read to an ending
 pub record Ends (host_tells sink_tells source_tells : Type 0) (was now : Outside) (old new : Entries) (ending : Ending) : Type 0 where
   -- what was not handed out as a packet
-  pub unread : List ℕ
+  pub held : List ℕ
   pub reads : ℕ
-  pub serving : Serving host_tells sink_tells source_tells was (record now { unread = unread }) old new
-  pub ends : EndsBy source_tells (Rose was.source_faults now.source_faults) unread reads ending
+  pub serving : Serving host_tells sink_tells source_tells was (record now { unread = held ++ now.unread }) old new
+  pub ends : EndsBy source_tells (Rose was.source_faults now.source_faults) (held ++ now.unread) held reads ending
   pub read : HasRead was.gave now.gave 0 reads
   pub rests : IsAtRest new.events

@@ -1,5 +1,5 @@
 -- What a session on one thread promises.
-use Rattle.std.specs.Prelude.{◌≡◌, ◌⊎◌, ℕ, nat_eq, ◌==◌, ◌<◌, ◌≤◌, Bool, true, false, not, ◌||◌, List, [], ◌∷◌, ◌++◌, Result, Ok, Err}
+use Rattle.std.specs.Prelude.{◌≡◌, ◌⊎◌, ℕ, nat_eq, ◌==◌, ◌<◌, ◌≤◌, length, IsSome, Bool, true, false, not, ◌||◌, List, [], ◌∷◌, ◌++◌, Result, Ok, Err}
 use Rattle.std.specs.List.{flat_map, list_any}
 use Rattle.esb_base.specs.Faults.{Rose}
 use Rattle.esb_base.specs.declared.memory.Memory.{Memory}
@@ -8,14 +8,14 @@ use Rattle.esb_wire.specs.Stream.{BeginsWithNone, Counts}
 use Rattle.esb_wire.specs.Budget.{budget}
 use Rattle.esb_core.specs.declared.event.Event.{Event}
 use Rattle.esb_core.specs.declared.event.Event.TheVariants as events
-use Rattle.esb_core.specs.History.{is_legal}
+use Rattle.esb_core.specs.History.{builds, is_legal, outcome, owed}
 use Rattle.esb_sound.specs.Sound.{Sound}
 use Rattle.esb_sound.specs.Sent.{arrivals, sent}
-use Rattle.esb_sound.specs.Serial.{IsSerial, lapses}
+use Rattle.esb_sound.specs.Serial.{IsSerial, is_refused, lapses}
 use Rattle.esb_sound.specs.Told.{AreTold, RoseBy, faults}
 use Rattle.esb_top.specs.declared.session.Ending.{Ending}
 use Rattle.esb_top.specs.declared.session.Ending.TheVariants as endings
-use Rattle.esb_top.specs.Input.{Begins}
+use Rattle.esb_top.specs.Input.{Begins, IsStopped}
 use Rattle.esb_top.specs.Output.{IsWritten}
 use Rattle.esb_top.specs.Serving.{Outside}
 use Rattle.esb_top.specs.Words.{greeting}
@@ -58,9 +58,17 @@ HasEnded journal = (before : List Event) × (journal ≡ before ++ events.EndOfI
 -- A session: the journal is one legal and right history, its answers are the host's own, the sink holds what the journal sent, and each status has its cause.
 pub record IsSession (host_tells sink_tells source_tells : Type 0) (was now : Outside) (status : ℕ) (journal : List Event) : Type 0 where
   pub known : is_known status ≡ true
+  -- how many reads gave a byte
+  pub reads : ℕ
   pub legal : is_legal journal ≡ true
   -- no packet arrives after the end of the input
   pub ended : (status ≡ 5 → ⊥) → HasEnded journal
+  pub empty_or_ended : (journal ≡ []) ⊎ HasEnded journal
+  -- all that was asked for is done: nothing is owed, and each build is settled, where memory was refused as such
+  pub none_owed : (status ≡ 5 → ⊥) → owed journal ≡ []
+  pub settled : (status ≡ 5 → ⊥) → (n : ℕ) → n < length (builds journal) → IsSome (outcome journal n)
+  pub unrefused : status ≡ 0 → list_any is_refused journal ≡ false
+  pub puts : host_tells → (path : List ℕ) → now.puts path ≡ was.puts path
   pub sound : Sound journal
   pub from_host : host_tells → AreTold was.world journal
   pub counted : RoseBy (faults journal) was.host_faults now.host_faults
@@ -70,12 +78,12 @@ pub record IsSession (host_tells sink_tells source_tells : Type 0) (was now : Ou
   pub sends : sink_tells → IsWritten was.holds now.holds (greeting ++ sent journal) (is_whole status)
   pub write_fault : status ≡ 4 → Rose was.sink_faults now.sink_faults
   pub read_fault : status ≡ 3 → Rose was.source_faults now.source_faults
-  -- the packets that arrived are the first of the input
+  -- the packets that arrived are the first of the input, up to where the reading stopped
   pub stream : source_tells → Begins was.unread (flat_map frame (arrivals journal))
+  pub stopped : (status ≡ 5 → ⊥) → IsStopped source_tells was.unread journal now.unread reads status
   pub malformed : status ≡ 2 → source_tells → IsCutAt was.unread journal
   pub whole_input : status ≡ 0 → source_tells → was.unread ≡ flat_map frame (arrivals journal)
-  -- the reads that gave a byte: 2^40 of them where the budget was spent, and fewer where the input ended or a read failed
-  pub reads : ℕ
+  -- 2^40 of them where the budget was spent, and fewer where the input ended or a read failed
   pub read : Counts was.gave now.gave 0 reads
   pub within_budget : reads ≤ budget
   pub spent : status ≡ 6 → reads ≡ budget

@@ -23,7 +23,7 @@ use Rattle.esb_top.specs.Entries.{Entries, Added}
 pub record Worked (tells : Type 0) (world : List Folder) (faults_old faults_new : ℕ) (old new : List Event) : Type 0 where
   pub sound : Sound old → Sound new
   pub from_host : tells → AreTold world old → AreTold world new
-  pub in_turn : tells → InTurn world old → InTurn world new
+  pub in_turn : InTurn tells world old → InTurn tells world new
   pub counted : (start : ℕ) → RoseBy (faults old) start faults_old → RoseBy (faults new) start faults_new
   pub arrived : arrivals new ≡ arrivals old
   pub sends : sent_packets new ≡ sent_packets old
@@ -61,6 +61,6 @@ pub record Linked (old new : Entries) (n : ℕ) : Type 0 where
 pub record Goes (tells : Type 0) (world : List Folder) (faults_old faults_new : ℕ) (old new : List Event) : Type 0 where
   pub sound : Sound old → Sound new
   pub from_host : tells → AreTold world old → AreTold world new
-  pub in_turn : tells → InTurn world old → InTurn world new
+  pub in_turn : InTurn tells world old → InTurn tells world new
   pub counted : (start : ℕ) → RoseBy (faults old) start faults_old → RoseBy (faults new) start faults_new
   pub ended : (replay new).ended ≡ (replay old).ended

@@ -1,9 +1,11 @@
 //! The machine of a session, with the journal of its events.
 ghost use Rattle.std.specs.Prelude.{◌≡◌, ◌⊎◌, ◌+◌, ◌<◌, ◌≤◌, true, [], ◌∷◌, ◌++◌, length, slice_get, IfOk, OnOk, OnErr, MatchOption, IsSome};
+ghost use Rattle.std.specs.List.{list_any};
 ghost use Rattle.esb_core.specs.declared.event.Event.{Event};
 ghost use Rattle.esb_core.specs.Allowed.{allowed, first_job};
 ghost use Rattle.esb_core.specs.History.{is_legal, replay};
 ghost use Rattle.esb_core.specs.State.{build_at};
+ghost use Rattle.esb_sound.specs.Serial.{is_refused};
 
 use esb_ask::{Answer, Outcome, Product, Question, Table, Task};
 use esb_base::{List, Memory};
@@ -55,6 +57,15 @@ impl History {
             events,
             promised: 1,
         })
+    }
+
+    /// Whether a build was settled for want of memory.
+    pub(crate) fn has_refusal(&self) -> bool
+        ensures { result ≡ list_any is_refused self.now.events }
+    {
+        self.events
+            .iter()
+            .any(|event| matches!(event, Event::Settle { outcome: Outcome::Memory, .. }))
     }
 
     /// The events are legal.

@@ -1,7 +1,7 @@
 //! The top call of a session on one thread.
-ghost use Rattle.std.specs.Prelude.{◌≡◌, ℕ, ◌<◌, ◌++◌, List as Listed, [], None, Some, true, false, is_ok};
+ghost use Rattle.std.specs.Prelude.{◌≡◌, ℕ, ◌<◌, [], None, Some, true};
 ghost use Rattle.esb_top.specs.Words.{bad_place, bad_word_line};
-ghost use Rattle.esb_top.specs.Output.{Wrote};
+ghost use Rattle.esb_top.specs.Output.{IsPut};
 ghost use Rattle.esb_top.specs.Session.{IsSession, status_of};
 
 use crate::history::History;
@@ -80,6 +80,14 @@ fn bad_word_line(place: u32) -> [u8; 16]
     }
 }
 
+/// Tells a bad word on the sink.
+fn put_line<K: Sink>(sink: &mut K, place: u32)
+    requires { place < 3 }
+    ensures { IsPut K.tells (K.holds sink.old) (K.holds sink.new) (K.faults sink.old) (K.faults sink.new) (bad_word_line place) }
+{
+    let _ = put(sink, &bad_word_line(place), true);
+}
+
 /// Serves a client until its input ends.
 fn converse<S: Source, K: Sink, H: Host>(
     alloc: Global,
@@ -88,15 +96,14 @@ fn converse<S: Source, K: Sink, H: Host>(
     host: &mut H,
 ) -> Session
     ensures { IsSession H.tells K.tells S.tells
-        (record { world = H.world host.old; host_faults = H.faults host.old; holds = K.holds sink.old; sink_faults = K.faults sink.old; whole = true; unread = S.left source.old; source_faults = S.faults source.old; gave = S.gave source.old })
-        (record { world = H.world host.new; host_faults = H.faults host.new; holds = K.holds sink.new; sink_faults = K.faults sink.new; whole = true; unread = S.left source.new; source_faults = S.faults source.new; gave = S.gave source.new })
+        (record { world = H.world host.old; host_faults = H.faults host.old; puts = H.put_at host.old; holds = K.holds sink.old; sink_faults = K.faults sink.old; whole = true; unread = S.left source.old; source_faults = S.faults source.old; gave = S.gave source.old })
+        (record { world = H.world host.new; host_faults = H.faults host.new; puts = H.put_at host.new; holds = K.holds sink.new; sink_faults = K.faults sink.new; whole = true; unread = S.left source.new; source_faults = S.faults source.new; gave = S.gave source.new })
         result.status result.journal.events }
 {
     let Ok(mut history) = History::new(alloc) else {
         return end_with(alloc, 5, no_events(alloc));
     };
     let mut whole = put(sink, &GREETING, true);
-    let mut refused = false;
     let ending = serve(
         alloc,
         &mut history,
@@ -104,11 +111,10 @@ fn converse<S: Source, K: Sink, H: Host>(
         sink,
         host,
         &mut whole,
-        &mut refused,
     );
-    let status = status_of(ending, whole, refused);
     history.end_of_input();
     history.is_legal();
+    let status = status_of(ending, whole, history.has_refusal());
     end_with(alloc, status, history.into_journal())
 }
 
@@ -124,17 +130,17 @@ pub fn run_serial<S: Source, K: Sink, H: Host>(
 ) -> Session
     ensures bad_status { (place : ℕ) → bad_place words.now ≡ Some place → result.status ≡ 1 }
     ensures bad_journal { (place : ℕ) → bad_place words.now ≡ Some place → result.journal.events ≡ [] }
-    ensures bad_line { (place : ℕ) → bad_place words.now ≡ Some place → (before so_far : Listed ℕ) → Wrote K.tells before (K.holds sink.old) so_far true
-        → Wrote K.tells before (K.holds sink.new) (so_far ++ bad_word_line place) false }
+    ensures bad_line { (place : ℕ) → bad_place words.now ≡ Some place → IsPut K.tells (K.holds sink.old) (K.holds sink.new) (K.faults sink.old) (K.faults sink.new) (bad_word_line place) }
+    ensures bad_rest { (place : ℕ) → bad_place words.now ≡ Some place → (source.new ≡ source.old) × (host.new ≡ host.old) }
     ensures session { bad_place words.now ≡ None → IsSession H.tells K.tells S.tells
-        (record { world = H.world host.old; host_faults = H.faults host.old; holds = K.holds sink.old; sink_faults = K.faults sink.old; whole = true; unread = S.left source.old; source_faults = S.faults source.old; gave = S.gave source.old })
-        (record { world = H.world host.new; host_faults = H.faults host.new; holds = K.holds sink.new; sink_faults = K.faults sink.new; whole = true; unread = S.left source.new; source_faults = S.faults source.new; gave = S.gave source.new })
+        (record { world = H.world host.old; host_faults = H.faults host.old; puts = H.put_at host.old; holds = K.holds sink.old; sink_faults = K.faults sink.old; whole = true; unread = S.left source.old; source_faults = S.faults source.old; gave = S.gave source.old })
+        (record { world = H.world host.new; host_faults = H.faults host.new; puts = H.put_at host.new; holds = K.holds sink.new; sink_faults = K.faults sink.new; whole = true; unread = S.left source.new; source_faults = S.faults source.new; gave = S.gave source.new })
         result.status result.journal.events }
 {
     match read_words(words) {
         Ok(Words) => converse(alloc, source, sink, host),
         Err(BadWord { place }) => {
-            let _ = put(sink, &bad_word_line(place), true);
+            put_line(sink, place);
             end_with(alloc, 1, no_events(alloc))
         }
     }

@@ -4,13 +4,12 @@ ghost use Rattle.esb_base.specs.Faults.{Rose};
 ghost use Rattle.esb_base.specs.World.{Folder};
 ghost use Rattle.esb_core.specs.Allowed.{first_job};
 ghost use Rattle.esb_core.specs.History.{replay};
-ghost use Rattle.esb_sound.specs.Serial.{InTurn};
 ghost use Rattle.esb_sound.specs.Sound.{Sound};
 ghost use Rattle.esb_sound.specs.Sent.{arrivals, sent};
 ghost use Rattle.esb_top.specs.Output.{FailedSince, PopsOne, Wrote};
 ghost use Rattle.esb_top.specs.Input.{ArrivesOne, EndsBy, HasRead, IsRead};
 ghost use Rattle.esb_top.specs.Serving.{Ends, Refused};
-ghost use Rattle.esb_top.specs.Turn.{IsAtRest, IsFree};
+ghost use Rattle.esb_top.specs.Turn.{IsAtRest, IsFree, TurnsOne};
 ghost use Rattle.esb_top.specs.Work.{Goes, Worked};
 
 use crate::history::History;
@@ -30,7 +29,7 @@ fn send_first<K: Sink>(
 ) -> Result<bool, Memory>
     requires free { IsFree history.old.events }
     ensures pops { PopsOne history.old.events history.new.events }
-    ensures in_turn { (world : Listed Folder) → InTurn world history.old.events → InTurn world history.new.events }
+    ensures in_turn { (world : Listed Folder) → TurnsOne world history.old.events history.new.events }
     ensures free { IsFree history.new.events }
     ensures none_owed { IfOk result (λ some. some ≡ false → (replay history.new.events).owed ≡ []) }
     ensures room { history.old.promised ≤ history.new.promised }
@@ -55,7 +54,6 @@ fn work_first<H: Host>(
     alloc: Global,
     history: &mut History,
     host: &mut H,
-    refused: &mut bool,
 ) -> Result<bool, Memory>
     requires sound { Sound history.old.events }
     requires free { IsFree history.old.events }
@@ -63,6 +61,7 @@ fn work_first<H: Host>(
     ensures worked { Worked H.tells (H.world host.old) (H.faults host.old) (H.faults host.new) history.old.events history.new.events }
     ensures room { history.old.promised ≤ history.new.promised }
     ensures world { H.tells → H.world host.new ≡ H.world host.old }
+    ensures puts { H.tells → (path : Listed ℕ) → H.put_at host.new path ≡ H.put_at host.old path }
     ensures never_falls { H.faults host.old ≤ H.faults host.new }
     ensures free { IsFree history.new.events }
     ensures rests { IfOk result (λ some. some ≡ false → IsAtRest history.new.events) }
@@ -70,8 +69,7 @@ fn work_first<H: Host>(
     let Some(job) = history.job()? else {
         return Ok(false);
     };
-    let refused_now = do_job(alloc, history, host, &job)?;
-    *refused = *refused || refused_now;
+    do_job(alloc, history, host, &job)?;
     Ok(true)
 }
 
@@ -100,11 +98,11 @@ fn read_next<S: Source>(
     ensures stream { IfOk result (λ ending. (whole : Listed ℕ) → IsRead S.tells whole history.old.events (reader.old.held ++ S.left source.old)
         → IsRead S.tells whole history.new.events (reader.new.held ++ S.left source.new)) }
     ensures part { OnErr result (history.new.events ≡ history.old.events) }
-    ensures in_turn { (world : Listed Folder) → InTurn world history.old.events → InTurn world history.new.events }
+    ensures in_turn { (world : Listed Folder) → TurnsOne world history.old.events history.new.events }
     ensures free { IsFree history.new.events }
     ensures rests { IfOk result (λ ending. IfSome ending (λ e. IsAtRest history.new.events)) }
     ensures read { HasRead (S.gave source.old) (S.gave source.new) reader.old.reads reader.new.reads }
-    ensures ends { IfOk result (λ ending. IfSome ending (λ e. EndsBy S.tells (Rose (S.faults source.old) (S.faults source.new)) (reader.new.held ++ S.left source.new) reader.new.reads e)) }
+    ensures ends { IfOk result (λ ending. IfSome ending (λ e. EndsBy S.tells (Rose (S.faults source.old) (S.faults source.new)) (reader.new.held ++ S.left source.new) reader.new.held reader.new.reads e)) }
 {
     history.is_legal();
     match reader.next_packet(source) {
@@ -130,7 +128,6 @@ fn turn<S: Source, K: Sink, H: Host>(
     sink: &mut K,
     host: &mut H,
     whole: &mut bool,
-    refused: &mut bool,
 ) -> Result<Option<Ending>, Memory>
     requires going { reader.old.stopped ≡ None }
     requires unended { (replay history.old.events).ended ≡ false }
@@ -140,6 +137,7 @@ fn turn<S: Source, K: Sink, H: Host>(
     ensures going { IfOk result (λ ending. ending ≡ None → reader.new.stopped ≡ None) }
     ensures room { history.old.promised ≤ history.new.promised }
     ensures world { H.tells → H.world host.new ≡ H.world host.old }
+    ensures puts { H.tells → (path : Listed ℕ) → H.put_at host.new path ≡ H.put_at host.old path }
     ensures wrote { IfOk result (λ ending. (before front : Listed ℕ) → Wrote K.tells before (K.holds sink.old) (front ++ sent history.old.events) whole.old
         → Wrote K.tells before (K.holds sink.new) (front ++ sent history.new.events) whole.new) }
     ensures wrote_part { OnErr result ((before front : Listed ℕ) → Wrote K.tells before (K.holds sink.old) (front ++ sent history.old.events) whole.old
@@ -153,12 +151,12 @@ fn turn<S: Source, K: Sink, H: Host>(
     ensures arrived { OnErr result (arrivals history.new.events ≡ arrivals history.old.events) }
     ensures stream { IfOk result (λ ending. (all : Listed ℕ) → IsRead S.tells all history.old.events (reader.old.held ++ S.left source.old)
         → IsRead S.tells all history.new.events (reader.new.held ++ S.left source.new)) }
-    ensures ends { IfOk result (λ ending. IfSome ending (λ e. EndsBy S.tells (Rose (S.faults source.old) (S.faults source.new)) (reader.new.held ++ S.left source.new) reader.new.reads e)) }
+    ensures ends { IfOk result (λ ending. IfSome ending (λ e. EndsBy S.tells (Rose (S.faults source.old) (S.faults source.new)) (reader.new.held ++ S.left source.new) reader.new.held reader.new.reads e)) }
 {
     if send_first(alloc, history, sink, whole)? {
         return Ok(None);
     }
-    if work_first(alloc, history, host, refused)? {
+    if work_first(alloc, history, host)? {
         return Ok(None);
     }
     read_next(history, reader, source)
@@ -172,18 +170,17 @@ pub(crate) fn serve<S: Source, K: Sink, H: Host>(
     sink: &mut K,
     host: &mut H,
     whole: &mut bool,
-    refused: &mut bool,
 ) -> Result<Ending, Memory>
     requires unended { (replay history.old.events).ended ≡ false }
     requires sound { Sound history.old.events }
     requires free { IsFree history.old.events }
     ensures ok { IfOk result (λ ending. Ends H.tells K.tells S.tells
-        (record { world = H.world host.old; host_faults = H.faults host.old; holds = K.holds sink.old; sink_faults = K.faults sink.old; whole = whole.old; unread = S.left source.old; source_faults = S.faults source.old; gave = S.gave source.old })
-        (record { world = H.world host.new; host_faults = H.faults host.new; holds = K.holds sink.new; sink_faults = K.faults sink.new; whole = whole.new; unread = S.left source.new; source_faults = S.faults source.new; gave = S.gave source.new })
+        (record { world = H.world host.old; host_faults = H.faults host.old; puts = H.put_at host.old; holds = K.holds sink.old; sink_faults = K.faults sink.old; whole = whole.old; unread = S.left source.old; source_faults = S.faults source.old; gave = S.gave source.old })
+        (record { world = H.world host.new; host_faults = H.faults host.new; puts = H.put_at host.new; holds = K.holds sink.new; sink_faults = K.faults sink.new; whole = whole.new; unread = S.left source.new; source_faults = S.faults source.new; gave = S.gave source.new })
         history.old history.new ending) }
     ensures err { OnErr result (Refused H.tells K.tells S.tells
-        (record { world = H.world host.old; host_faults = H.faults host.old; holds = K.holds sink.old; sink_faults = K.faults sink.old; whole = whole.old; unread = S.left source.old; source_faults = S.faults source.old; gave = S.gave source.old })
-        (record { world = H.world host.new; host_faults = H.faults host.new; holds = K.holds sink.new; sink_faults = K.faults sink.new; whole = whole.new; unread = S.left source.new; source_faults = S.faults source.new; gave = S.gave source.new })
+        (record { world = H.world host.old; host_faults = H.faults host.old; puts = H.put_at host.old; holds = K.holds sink.old; sink_faults = K.faults sink.old; whole = whole.old; unread = S.left source.old; source_faults = S.faults source.old; gave = S.gave source.old })
+        (record { world = H.world host.new; host_faults = H.faults host.new; puts = H.put_at host.new; holds = K.holds sink.new; sink_faults = K.faults sink.new; whole = whole.new; unread = S.left source.new; source_faults = S.faults source.new; gave = S.gave source.new })
         history.old history.new) }
 {
     let mut reader = Reader::new(alloc);
@@ -197,7 +194,6 @@ pub(crate) fn serve<S: Source, K: Sink, H: Host>(
             sink,
             host,
             whole,
-            refused,
         )?;
         if let Some(ending) = ended {
             return Ok(ending);

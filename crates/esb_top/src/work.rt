@@ -1,5 +1,5 @@
 //! The work of the one worker on the builds.
-ghost use Rattle.std.specs.Prelude.{◌≡◌, ◌⊎◌, ◌+◌, ◌<◌, ◌≤◌, true, Some, [], ◌∷◌, ◌++◌, length, IfOk, OnOk, OnErr};
+ghost use Rattle.std.specs.Prelude.{◌≡◌, ◌⊎◌, ℕ, ◌+◌, ◌<◌, ◌≤◌, true, Some, [], ◌∷◌, ◌++◌, List as Listed, length, IfOk, OnOk, OnErr};
 ghost use Rattle.esb_base.specs.Faults.{Rose};
 ghost use Rattle.esb_ask.specs.Table.{fits};
 ghost use Rattle.esb_core.specs.Allowed.{first_job};
@@ -32,6 +32,7 @@ fn ask<H: Host>(host: &mut H, turn: u32, question: &Question) -> Result<Answer, 
     ensures from_host { H.tells → IfOk result (λ answer. (answer ≡ told (H.world host.old) turn question.now) ⊎ (answer ≡ Answer.Fault)) }
     ensures fault { IfOk result (λ answer. answer ≡ Answer.Fault → Rose (H.faults host.old) (H.faults host.new)) }
     ensures world { H.tells → H.world host.new ≡ H.world host.old }
+    ensures puts { H.tells → (path : Listed ℕ) → H.put_at host.new path ≡ H.put_at host.old path }
     ensures never_falls { H.faults host.old ≤ H.faults host.new }
 {
     match question {
@@ -63,6 +64,7 @@ fn answer<H: Host>(
     ensures ok { OnOk result (Answered H.tells (H.world host.old) (H.faults host.old) (H.faults host.new) history.old history.new build question.now) }
     ensures err { OnErr result (Kept history.old history.new) }
     ensures world { H.tells → H.world host.new ≡ H.world host.old }
+    ensures puts { H.tells → (path : Listed ℕ) → H.put_at host.new path ≡ H.put_at host.old path }
     ensures never_falls { H.faults host.old ≤ H.faults host.new }
 {
     let answer = ask(host, build, question)?;
@@ -88,6 +90,7 @@ fn product_of<H: Host>(
     ensures worked { Worked H.tells (H.world host.old) (H.faults host.old) (H.faults host.new) history.old.events history.new.events }
     ensures room { history.old.promised ≤ history.new.promised }
     ensures world { H.tells → H.world host.new ≡ H.world host.old }
+    ensures puts { H.tells → (path : Listed ℕ) → H.put_at host.new path ≡ H.put_at host.old path }
     ensures never_falls { H.faults host.old ≤ H.faults host.new }
 {
     history.is_legal();
@@ -116,11 +119,13 @@ fn try_scan<H: Host>(
     requires in_hand { doing history.old.events ≡ Some (Job.Scan build task.now) }
     requires room { 0 < history.old.promised }
     ensures free { OnOk result (IsFree history.new.events) }
+    ensures in_hand { OnErr result (doing history.new.events ≡ Some (Job.Scan build task.now)) }
     ensures at { OnErr result (AtWork (replay history.new.events) build task.now) }
     ensures worked { Worked H.tells (H.world host.old) (H.faults host.old) (H.faults host.new) history.old.events history.new.events }
     ensures room { OnErr result (history.old.promised ≤ history.new.promised) }
     ensures room_after { OnOk result (history.old.promised ≤ history.new.promised + 1) }
     ensures world { H.tells → H.world host.new ≡ H.world host.old }
+    ensures puts { H.tells → (path : Listed ℕ) → H.put_at host.new path ≡ H.put_at host.old path }
     ensures never_falls { H.faults host.old ≤ H.faults host.new }
 {
     let options = history.view(build)?.options;
@@ -147,14 +152,14 @@ fn linked(alloc: Global, options: &Options, table: &Table) -> Outcome
     }
 }
 
-/// Does a claimed task. Where memory is refused the build is settled so, which is told.
+/// Does a claimed task. Where memory is refused the build is settled so.
 fn scan<H: Host>(
     alloc: Global,
     history: &mut History,
     host: &mut H,
     build: u32,
     task: &Task,
-) -> bool
+)
     requires at { AtWork (replay history.old.events) build task.now }
     requires in_hand { doing history.old.events ≡ Some (Job.Scan build task.now) }
     requires room { 0 < history.old.promised }
@@ -162,21 +167,23 @@ fn scan<H: Host>(
     ensures worked { Worked H.tells (H.world host.old) (H.faults host.old) (H.faults host.new) history.old.events history.new.events }
     ensures room { history.old.promised ≤ history.new.promised + 1 }
     ensures world { H.tells → H.world host.new ≡ H.world host.old }
+    ensures puts { H.tells → (path : Listed ℕ) → H.put_at host.new path ≡ H.put_at host.old path }
     ensures never_falls { H.faults host.old ≤ H.faults host.new }
 {
     if try_scan(alloc, history, host, build, task).is_ok() {
-        return false;
+        return;
     }
     give_up(history, build, task);
-    true
 }
 
 /// Settles the build of a claimed task as refused memory.
 fn give_up(history: &mut History, build: u32, task: &Task)
     requires at { AtWork (replay history.old.events) build task.now }
+    requires in_hand { doing history.old.events ≡ Some (Job.Scan build task.now) }
     requires room { 0 < history.old.promised }
     ensures added { history.new.events ≡ history.old.events ++ Event.Settle 0 build Outcome.Memory ∷ [] }
     ensures legal { is_legal history.old.events ≡ true }
+    ensures in_hand { doing history.old.events ≡ Some (Job.Scan build task.now) }
     ensures room { history.old.promised ≤ history.new.promised + 1 }
 {
     let _ = task;
@@ -196,8 +203,8 @@ fn outcome_of(alloc: Global, history: &History, build: u32) -> Outcome
     }
 }
 
-/// Links a build whose link is claimed. Where memory is refused the build is settled so, which is told.
-fn link_build(alloc: Global, history: &mut History, build: u32) -> bool
+/// Links a build whose link is claimed. Where memory is refused the build is settled so.
+fn link_build(alloc: Global, history: &mut History, build: u32)
     requires at { AtLink (replay history.old.events) build }
     requires complete { IsComplete (build_at (replay history.old.events).builds build).options (build_at (replay history.old.events).builds build).table }
     requires room { 0 < history.old.promised }
@@ -205,19 +212,16 @@ fn link_build(alloc: Global, history: &mut History, build: u32) -> bool
 {
     history.is_legal();
     let outcome = outcome_of(alloc, history, build);
-    let refused = matches!(outcome, Outcome::Memory);
     history.settle(build, outcome);
-    refused
 }
 
-/// Does the worker's first open job. It tells whether memory was refused after the claim, and answers `Memory` where it was
-/// refused before.
+/// Does the worker's first open job. It answers `Memory` where memory was refused before the claim.
 pub(crate) fn do_job<H: Host>(
     alloc: Global,
     history: &mut History,
     host: &mut H,
     job: &Job,
-) -> Result<bool, Memory>
+) -> Result<(), Memory>
     requires first { first_job (replay history.old.events) (Role.Worker 0) ≡ Some job.now }
     requires sound { Sound history.old.events }
     requires free { IsFree history.old.events }
@@ -226,13 +230,15 @@ pub(crate) fn do_job<H: Host>(
     ensures worked { Worked H.tells (H.world host.old) (H.faults host.old) (H.faults host.new) history.old.events history.new.events }
     ensures room { history.old.promised ≤ history.new.promised }
     ensures world { H.tells → H.world host.new ≡ H.world host.old }
+    ensures puts { H.tells → (path : Listed ℕ) → H.put_at host.new path ≡ H.put_at host.old path }
     ensures never_falls { H.faults host.old ≤ H.faults host.new }
 {
     links_are_ready();
     history.is_legal();
     history.claim(job)?;
     match job {
-        Job::Scan { build, task } => Ok(scan(alloc, history, host, *build, task)),
-        Job::Link { build } => Ok(link_build(alloc, history, *build)),
+        Job::Scan { build, task } => scan(alloc, history, host, *build, task),
+        Job::Link { build } => link_build(alloc, history, *build),
     }
+    Ok(())
 }

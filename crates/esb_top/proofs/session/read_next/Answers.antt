@@ -17,9 +17,8 @@ pub returns-in_ok-arrive-in-Packet-clause-arrives : goal.returns-in_ok-arrive-in
 returns-in_ok-arrive-in-Packet-clause-arrives g c = inr (c.in-Packet.packet, c.in_ok-arrive-in-Packet.ensures.ok.events)
 
 pub returns-in_ok-arrive-in-Packet-clause-in_turn : goal.returns-in_ok-arrive-in-Packet-clause-in_turn
-returns-in_ok-arrive-in-Packet-clause-in_turn g c = λ world h.
-    subst (λ (es : List Event). InTurn world es) (sym c.in_ok-arrive-in-Packet.ensures.ok.events)
-    (each-push (IsInTurn world) c.args.history.now.events (events.Arrive c.in-Packet.packet) h (arrive-in_turn world c.args.history.now.events c.in-Packet.packet c.is_legal.ensures c.requires.rests))
+returns-in_ok-arrive-in-Packet-clause-in_turn g c = λ world.
+    inr (events.Arrive c.in-Packet.packet, c.in_ok-arrive-in-Packet.ensures.ok.events, arrive-in_turn (Unit {0}) world c.args.history.now.events c.in-Packet.packet c.is_legal.ensures c.requires.rests)
 
 pub returns-in_ok-arrive-in-Packet-clause-free : goal.returns-in_ok-arrive-in-Packet-clause-free
 returns-in_ok-arrive-in-Packet-clause-free g c =

@@ -1,6 +1,6 @@
 use Rattle.esb_core.specs.History.{replay}
 use Rattle.esb_sound.specs.Sent.{sent}
-use Rattle.std.proofs.Common.{◌++◌, ◌∷◌, [], ◌≡◌, List, ℕ, sym, ap, subst, ◌∙◌}
+use Rattle.std.proofs.Common.{◌++◌, ◌∷◌, [], ◌≡◌, List, ℕ, inl, sym, ap, subst, ◌∙◌}
 use Rattle.esb_core.specs.declared.event.Event.{Event}
 use Rattle.esb_core.specs.declared.event.Event.TheVariants as events
 use Rattle.esb_top.proofs.InOrder.{popped-free, popped-in_turn, unowed}
@@ -27,13 +27,13 @@ returns-clause-wrote g c =
     (rw c.in-Some.is at c.in_ok-out.ensures.ok).events (c.in_ok-whole.ensures.wrote before (front ++ sent c.args.history.now.events) w t)
 
 pub returns-in_err-whole-clause-in_turn : goal.returns-in_err-whole-clause-in_turn
-returns-in_err-whole-clause-in_turn g c = λ world h. popped-in_turn world c.args.history.now.events c.pop.new.self.events c.in-Some.out c.is_legal.ensures c.requires.free (sym c.in_ok-out.ensures.first ∙ c.in-Some.is) (rw c.in-Some.is at c.in_ok-out.ensures.ok).events h
+returns-in_err-whole-clause-in_turn g c = λ world. popped-in_turn world c.args.history.now.events c.pop.new.self.events c.in-Some.out c.is_legal.ensures c.requires.free (sym c.in_ok-out.ensures.first ∙ c.in-Some.is) (rw c.in-Some.is at c.in_ok-out.ensures.ok).events
 
 pub returns-in_err-whole-clause-free : goal.returns-in_err-whole-clause-free
 returns-in_err-whole-clause-free g c = popped-free c.args.history.now.events c.pop.new.self.events c.requires.free (rw c.in-Some.is at c.in_ok-out.ensures.ok).events
 
 pub returns-clause-in_turn : goal.returns-clause-in_turn
-returns-clause-in_turn g c = λ world h. popped-in_turn world c.args.history.now.events c.pop.new.self.events c.in-Some.out c.is_legal.ensures c.requires.free (sym c.in_ok-out.ensures.first ∙ c.in-Some.is) (rw c.in-Some.is at c.in_ok-out.ensures.ok).events h
+returns-clause-in_turn g c = λ world. popped-in_turn world c.args.history.now.events c.pop.new.self.events c.in-Some.out c.is_legal.ensures c.requires.free (sym c.in_ok-out.ensures.first ∙ c.in-Some.is) (rw c.in-Some.is at c.in_ok-out.ensures.ok).events
 
 pub returns-clause-free : goal.returns-clause-free
 returns-clause-free g c = popped-free c.args.history.now.events c.pop.new.self.events c.requires.free (rw c.in-Some.is at c.in_ok-out.ensures.ok).events
@@ -42,3 +42,6 @@ pub returns-in_default-clause-none_owed : goal.returns-in_default-clause-none_ow
 returns-in_default-clause-none_owed g c = λ e.
     ap (λ (es : List Event). (replay es).owed) (rw c.in_default.is at c.in_ok-out.ensures.ok).events
     ∙ unowed (replay c.args.history.now.events).owed (sym c.in_ok-out.ensures.first ∙ c.in_default.is)
+
+pub returns-in_default-clause-in_turn : goal.returns-in_default-clause-in_turn
+returns-in_default-clause-in_turn g c = λ world. inl (rw c.in_default.is at c.in_ok-out.ensures.ok).events

@@ -6,29 +6,30 @@ use Rattle.esb_sound.specs.Sent.{arrivals, sent}
 use Rattle.esb_top.specs.Output.{Wrote, IsWritten}
 use Rattle.esb_top.proofs.Turns.{arrivals-pops, goes-arrives, goes-pops, goes-trans, goes-worked, if_ok, if_ok-map, sent-arrives, sent-worked}
 use Rattle.esb_core.specs.declared.event.Event.{Event}
+use Rattle.esb_top.proofs.InOrder.{turns-one}
 use Rattle.esb_top.proofs.Outputs.{on_err, on_err-map}
 use Rattle.esb_top.proofs.session.turn.Goals as goal
 
 pub returns-in_err-send_first-clause-goes : goal.returns-in_err-send_first-clause-goes
-returns-in_err-send_first-clause-goes g c = goes-pops g.H.Host.tells (g.H.Host.world c.args.host.now) (g.H.Host.faults c.args.host.now) c.args.history.now.events c.send_first.new.history.events c.send_first.ensures.pops (c.send_first.ensures.in_turn (g.H.Host.world c.args.host.now))
+returns-in_err-send_first-clause-goes g c = goes-pops g.H.Host.tells (g.H.Host.world c.args.host.now) (g.H.Host.faults c.args.host.now) c.args.history.now.events c.send_first.new.history.events c.send_first.ensures.pops (turns-one g.H.Host.tells (g.H.Host.world c.args.host.now) c.args.history.now.events c.send_first.new.history.events (c.send_first.ensures.in_turn (g.H.Host.world c.args.host.now)))
 
 pub returns-then-branch-clause-goes : goal.returns-then-branch-clause-goes
-returns-then-branch-clause-goes g c = goes-pops g.H.Host.tells (g.H.Host.world c.args.host.now) (g.H.Host.faults c.args.host.now) c.args.history.now.events c.send_first.new.history.events c.send_first.ensures.pops (c.send_first.ensures.in_turn (g.H.Host.world c.args.host.now))
+returns-then-branch-clause-goes g c = goes-pops g.H.Host.tells (g.H.Host.world c.args.host.now) (g.H.Host.faults c.args.host.now) c.args.history.now.events c.send_first.new.history.events c.send_first.ensures.pops (turns-one g.H.Host.tells (g.H.Host.world c.args.host.now) c.args.history.now.events c.send_first.new.history.events (c.send_first.ensures.in_turn (g.H.Host.world c.args.host.now)))
 
 pub work_first-requires-clause-sound : goal.work_first-requires-clause-sound
-work_first-requires-clause-sound g c = (goes-pops g.H.Host.tells (g.H.Host.world c.args.host.now) (g.H.Host.faults c.args.host.now) c.args.history.now.events c.send_first.new.history.events c.send_first.ensures.pops (c.send_first.ensures.in_turn (g.H.Host.world c.args.host.now))).sound c.requires.sound
+work_first-requires-clause-sound g c = (goes-pops g.H.Host.tells (g.H.Host.world c.args.host.now) (g.H.Host.faults c.args.host.now) c.args.history.now.events c.send_first.new.history.events c.send_first.ensures.pops (turns-one g.H.Host.tells (g.H.Host.world c.args.host.now) c.args.history.now.events c.send_first.new.history.events (c.send_first.ensures.in_turn (g.H.Host.world c.args.host.now)))).sound c.requires.sound
 
 pub returns-in_err-work_first-clause-goes : goal.returns-in_err-work_first-clause-goes
-returns-in_err-work_first-clause-goes g c = goes-trans g.H.Host.tells (g.H.Host.world c.args.host.now) (g.H.Host.faults c.args.host.now) (g.H.Host.faults c.args.host.now) (g.H.Host.faults c.work_first.new.host) c.args.history.now.events c.send_first.new.history.events c.work_first.new.history.events (goes-pops g.H.Host.tells (g.H.Host.world c.args.host.now) (g.H.Host.faults c.args.host.now) c.args.history.now.events c.send_first.new.history.events c.send_first.ensures.pops (c.send_first.ensures.in_turn (g.H.Host.world c.args.host.now))) (goes-worked g.H.Host.tells (g.H.Host.world c.args.host.now) (g.H.Host.faults c.args.host.now) (g.H.Host.faults c.work_first.new.host) c.send_first.new.history.events c.work_first.new.history.events c.work_first.ensures.worked)
+returns-in_err-work_first-clause-goes g c = goes-trans g.H.Host.tells (g.H.Host.world c.args.host.now) (g.H.Host.faults c.args.host.now) (g.H.Host.faults c.args.host.now) (g.H.Host.faults c.work_first.new.host) c.args.history.now.events c.send_first.new.history.events c.work_first.new.history.events (goes-pops g.H.Host.tells (g.H.Host.world c.args.host.now) (g.H.Host.faults c.args.host.now) c.args.history.now.events c.send_first.new.history.events c.send_first.ensures.pops (turns-one g.H.Host.tells (g.H.Host.world c.args.host.now) c.args.history.now.events c.send_first.new.history.events (c.send_first.ensures.in_turn (g.H.Host.world c.args.host.now)))) (goes-worked g.H.Host.tells (g.H.Host.world c.args.host.now) (g.H.Host.faults c.args.host.now) (g.H.Host.faults c.work_first.new.host) c.send_first.new.history.events c.work_first.new.history.events c.work_first.ensures.worked)
 
 pub returns-then-branch-2-clause-goes : goal.returns-then-branch-2-clause-goes
-returns-then-branch-2-clause-goes g c = goes-trans g.H.Host.tells (g.H.Host.world c.args.host.now) (g.H.Host.faults c.args.host.now) (g.H.Host.faults c.args.host.now) (g.H.Host.faults c.work_first.new.host) c.args.history.now.events c.send_first.new.history.events c.work_first.new.history.events (goes-pops g.H.Host.tells (g.H.Host.world c.args.host.now) (g.H.Host.faults c.args.host.now) c.args.history.now.events c.send_first.new.history.events c.send_first.ensures.pops (c.send_first.ensures.in_turn (g.H.Host.world c.args.host.now))) (goes-worked g.H.Host.tells (g.H.Host.world c.args.host.now) (g.H.Host.faults c.args.host.now) (g.H.Host.faults c.work_first.new.host) c.send_first.new.history.events c.work_first.new.history.events c.work_first.ensures.worked)
+returns-then-branch-2-clause-goes g c = goes-trans g.H.Host.tells (g.H.Host.world c.args.host.now) (g.H.Host.faults c.args.host.now) (g.H.Host.faults c.args.host.now) (g.H.Host.faults c.work_first.new.host) c.args.history.now.events c.send_first.new.history.events c.work_first.new.history.events (goes-pops g.H.Host.tells (g.H.Host.world c.args.host.now) (g.H.Host.faults c.args.host.now) c.args.history.now.events c.send_first.new.history.events c.send_first.ensures.pops (turns-one g.H.Host.tells (g.H.Host.world c.args.host.now) c.args.history.now.events c.send_first.new.history.events (c.send_first.ensures.in_turn (g.H.Host.world c.args.host.now)))) (goes-worked g.H.Host.tells (g.H.Host.world c.args.host.now) (g.H.Host.faults c.args.host.now) (g.H.Host.faults c.work_first.new.host) c.send_first.new.history.events c.work_first.new.history.events c.work_first.ensures.worked)
 
 pub read_next-requires-clause-open : goal.read_next-requires-clause-open
-read_next-requires-clause-open g c = (goes-trans g.H.Host.tells (g.H.Host.world c.args.host.now) (g.H.Host.faults c.args.host.now) (g.H.Host.faults c.args.host.now) (g.H.Host.faults c.work_first.new.host) c.args.history.now.events c.send_first.new.history.events c.work_first.new.history.events (goes-pops g.H.Host.tells (g.H.Host.world c.args.host.now) (g.H.Host.faults c.args.host.now) c.args.history.now.events c.send_first.new.history.events c.send_first.ensures.pops (c.send_first.ensures.in_turn (g.H.Host.world c.args.host.now))) (goes-worked g.H.Host.tells (g.H.Host.world c.args.host.now) (g.H.Host.faults c.args.host.now) (g.H.Host.faults c.work_first.new.host) c.send_first.new.history.events c.work_first.new.history.events c.work_first.ensures.worked)).ended ∙ c.requires.unended
+read_next-requires-clause-open g c = (goes-trans g.H.Host.tells (g.H.Host.world c.args.host.now) (g.H.Host.faults c.args.host.now) (g.H.Host.faults c.args.host.now) (g.H.Host.faults c.work_first.new.host) c.args.history.now.events c.send_first.new.history.events c.work_first.new.history.events (goes-pops g.H.Host.tells (g.H.Host.world c.args.host.now) (g.H.Host.faults c.args.host.now) c.args.history.now.events c.send_first.new.history.events c.send_first.ensures.pops (turns-one g.H.Host.tells (g.H.Host.world c.args.host.now) c.args.history.now.events c.send_first.new.history.events (c.send_first.ensures.in_turn (g.H.Host.world c.args.host.now)))) (goes-worked g.H.Host.tells (g.H.Host.world c.args.host.now) (g.H.Host.faults c.args.host.now) (g.H.Host.faults c.work_first.new.host) c.send_first.new.history.events c.work_first.new.history.events c.work_first.ensures.worked)).ended ∙ c.requires.unended
 
 pub returns-clause-goes : goal.returns-clause-goes
-returns-clause-goes g c = goes-trans g.H.Host.tells (g.H.Host.world c.args.host.now) (g.H.Host.faults c.args.host.now) (g.H.Host.faults c.work_first.new.host) (g.H.Host.faults c.work_first.new.host) c.args.history.now.events c.work_first.new.history.events c.read_next.new.history.events (goes-trans g.H.Host.tells (g.H.Host.world c.args.host.now) (g.H.Host.faults c.args.host.now) (g.H.Host.faults c.args.host.now) (g.H.Host.faults c.work_first.new.host) c.args.history.now.events c.send_first.new.history.events c.work_first.new.history.events (goes-pops g.H.Host.tells (g.H.Host.world c.args.host.now) (g.H.Host.faults c.args.host.now) c.args.history.now.events c.send_first.new.history.events c.send_first.ensures.pops (c.send_first.ensures.in_turn (g.H.Host.world c.args.host.now))) (goes-worked g.H.Host.tells (g.H.Host.world c.args.host.now) (g.H.Host.faults c.args.host.now) (g.H.Host.faults c.work_first.new.host) c.send_first.new.history.events c.work_first.new.history.events c.work_first.ensures.worked)) (goes-arrives g.H.Host.tells (g.H.Host.world c.args.host.now) (g.H.Host.faults c.work_first.new.host) c.work_first.new.history.events c.read_next.new.history.events c.read_next.ensures.arrives (c.read_next.ensures.in_turn (g.H.Host.world c.args.host.now)))
+returns-clause-goes g c = goes-trans g.H.Host.tells (g.H.Host.world c.args.host.now) (g.H.Host.faults c.args.host.now) (g.H.Host.faults c.work_first.new.host) (g.H.Host.faults c.work_first.new.host) c.args.history.now.events c.work_first.new.history.events c.read_next.new.history.events (goes-trans g.H.Host.tells (g.H.Host.world c.args.host.now) (g.H.Host.faults c.args.host.now) (g.H.Host.faults c.args.host.now) (g.H.Host.faults c.work_first.new.host) c.args.history.now.events c.send_first.new.history.events c.work_first.new.history.events (goes-pops g.H.Host.tells (g.H.Host.world c.args.host.now) (g.H.Host.faults c.args.host.now) c.args.history.now.events c.send_first.new.history.events c.send_first.ensures.pops (turns-one g.H.Host.tells (g.H.Host.world c.args.host.now) c.args.history.now.events c.send_first.new.history.events (c.send_first.ensures.in_turn (g.H.Host.world c.args.host.now)))) (goes-worked g.H.Host.tells (g.H.Host.world c.args.host.now) (g.H.Host.faults c.args.host.now) (g.H.Host.faults c.work_first.new.host) c.send_first.new.history.events c.work_first.new.history.events c.work_first.ensures.worked)) (goes-arrives g.H.Host.tells (g.H.Host.world c.args.host.now) (g.H.Host.faults c.work_first.new.host) c.work_first.new.history.events c.read_next.new.history.events c.read_next.ensures.arrives (turns-one g.H.Host.tells (g.H.Host.world c.args.host.now) c.work_first.new.history.events c.read_next.new.history.events (c.read_next.ensures.in_turn (g.H.Host.world c.args.host.now))))
 
 pub returns-clause-wrote : goal.returns-clause-wrote
 returns-clause-wrote g c =

@@ -37,5 +37,6 @@ returns g c =
       worked = s.worked;
       room = s.room;
       world = c.in_ok-answer-in-Asks.ensures.world;
+      puts = c.in_ok-answer-in-Asks.ensures.puts;
       never_falls = c.in_ok-answer-in-Asks.ensures.never_falls;
     }

@@ -9,7 +9,7 @@ pub returns-clause-worked : goal.returns-clause-worked
 returns-clause-worked g c =
     worked-trans g.H.Host.tells (g.H.Host.world c.args.host.now) (g.H.Host.faults c.args.host.now) (g.H.Host.faults c.try_scan.new.host) (g.H.Host.faults c.try_scan.new.host) c.args.history.now.events c.try_scan.new.history.events c.give_up.new.history.events
     c.try_scan.ensures.worked
-    (given_up-step g.H.Host.tells (g.H.Host.world c.args.host.now) (g.H.Host.faults c.try_scan.new.host) c.try_scan.new.history c.give_up.new.history.events c.args.build c.give_up.ensures.legal c.give_up.ensures.added)
+    (given_up-step g.H.Host.tells (g.H.Host.world c.args.host.now) (g.H.Host.faults c.try_scan.new.host) c.try_scan.new.history c.give_up.new.history.events c.args.build c.args.task.now c.give_up.ensures.legal c.give_up.ensures.in_hand c.give_up.ensures.added)
 
 pub returns-clause-free : goal.returns-clause-free
 returns-clause-free g c = doing-is c.try_scan.new.history.events c.give_up.new.history.events (event.Settle 0 c.args.build outcomes.Memory) c.give_up.ensures.added
