@@ -1,5 +1,6 @@
 pub mod Builds
 pub mod Finished
+pub mod Hands
 pub mod Links
 pub mod Owed
 pub mod Tasks

@@ -1,16 +1,18 @@
 //! Laws over every list of events. Each function's contract is the law, and its body does nothing.
 
-ghost use Rattle.std.specs.Prelude.{◌≡◌, ◌<◌, ◌^◌, ℕ, List, true, Some, slice_get};
+ghost use Rattle.std.specs.Prelude.{◌≡◌, ◌<◌, ◌^◌, ℕ, List, true, Some, None, IsSome, length, slice_get};
 ghost use Rattle.esb_base.specs.World.{Folder};
 ghost use Rattle.esb_wire.specs.declared.value.Packet.{Packet};
 ghost use Rattle.esb_core.specs.declared.event.Event.{Event};
 ghost use Rattle.esb_core.specs.declared.event.Job.TheVariants as jobs;
+ghost use Rattle.esb_core.specs.declared.event.Role.TheVariants as roles;
 ghost use Rattle.esb_core.specs.declared.out.Out.{Out};
-ghost use Rattle.esb_core.specs.Allowed.{job_of};
-ghost use Rattle.esb_core.specs.History.{is_legal, replay};
+ghost use Rattle.esb_core.specs.Allowed.{first_job, job_of};
+ghost use Rattle.esb_core.specs.History.{builds, is_legal, outcome, replay};
 ghost use Rattle.esb_core.specs.State.{build_at};
 ghost use Rattle.esb_scan.specs.Complete.{IsComplete};
-ghost use Rattle.esb_sound.specs.Serial.{IsSerial};
+ghost use Rattle.esb_sound.specs.Each.{Each};
+ghost use Rattle.esb_sound.specs.Serial.{doing, Handles, IsSerial};
 ghost use Rattle.esb_sound.specs.Sound.{Sound};
 ghost use Rattle.esb_sound.specs.Ready.{IsReady};
 
@@ -31,4 +33,10 @@ pub fn replies_are_ready()
 /// folders.
 pub fn serial_histories_are_one()
     ensures { (world : List Folder) (packets : List Packet) (one other : List Event) → IsSerial world packets one → IsSerial world packets other → one ≡ other }
+{}
+
+/// With one worker, which takes one job at a time, each build is settled where no job is in hand and none is open.
+pub fn builds_are_done()
+    ensures { (events : List Event) → is_legal events ≡ true → Each Handles events → doing events ≡ None
+        → first_job (replay events) (roles.Worker 0) ≡ None → (n : ℕ) → n < length (builds events) → IsSome (outcome events n) }
 {}

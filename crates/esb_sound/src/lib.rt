@@ -3,4 +3,4 @@
 
 mod laws;
 
-pub use laws::{links_are_ready, replies_are_ready, serial_histories_are_one};
+pub use laws::{builds_are_done, links_are_ready, replies_are_ready, serial_histories_are_one};

@@ -1,0 +1,285 @@
+-- With one worker, a build that isn't settled has no claim but that of the job in hand.
+use Rattle.std.proofs.Common.{◌≡◌, ◌⊎◌, inl, inr, append_assoc, ℕ, zero, suc, ◌+◌, ◌<◌, Bool, true, false, cond, not, ◌&&◌, List, [], ◌∷◌, ◌++◌, length, Option, None, Some, IsSome, Ok, Err, refl, sym, ap, subst, ◌∙◌, arith, nat_eq, nat_lt, slice_get, slice_set}
+use Rattle.std.specs.Prelude.{filter, fold, is_none, is_some}
+use Rattle.std.proofs.lemmas.Bool.{eqb-true, ltb-true}
+use Rattle.std.proofs.lemmas.List.{length-map}
+use Rattle.esb_base.specs.World.{Folder}
+use Rattle.esb_wire.specs.declared.value.Packet.{Packet}
+use Rattle.esb_flags.specs.declared.options.Options.{Options}
+use Rattle.esb_flags.specs.declared.command.Command.{Command}
+use Rattle.esb_flags.specs.declared.command.Command.TheVariants as command
+use Rattle.esb_flags.specs.Fields.{Answer as Asked}
+use Rattle.esb_flags.specs.Command.{asked}
+use Rattle.esb_ask.specs.declared.question.Question.{Question}
+use Rattle.esb_ask.specs.declared.answer.Answer.{Answer}
+use Rattle.esb_ask.specs.declared.task.Task.{Task}
+use Rattle.esb_ask.specs.declared.product.Product.{Product}
+use Rattle.esb_ask.specs.declared.outcome.Outcome.{Outcome}
+use Rattle.esb_ask.specs.Table.{fits}
+use Rattle.esb_ask.specs.Tasks.{product_fits}
+use Rattle.esb_ask.proofs.SameTask.{same_task-refl}
+use Rattle.esb_core.specs.declared.event.Job.{Job}
+use Rattle.esb_core.specs.declared.event.Job.TheVariants as job
+use Rattle.esb_core.specs.declared.event.Role.{Role}
+use Rattle.esb_core.specs.declared.event.Role.TheVariants as role
+use Rattle.esb_core.specs.declared.event.Event.{Event}
+use Rattle.esb_core.specs.declared.event.Event.TheVariants as event
+use Rattle.esb_core.specs.State.{Building, State, build_at, start}
+use Rattle.esb_core.specs.Steps
+use Rattle.esb_core.specs.Steps.{after, after_packet, after_command, begun_if, is_claim, most_builds, task_claimed, link_claimed, recorded, delivered, settled}
+use Rattle.esb_core.specs.Allowed.{allowed, has_begun, first_from, first_job, job_by, job_of, job_unless, link_if, is_scanned, names_job, or_next, has_task, may_settle}
+use Rattle.esb_core.specs.History.{builds, is_legal, is_legal_from, outcome, replay, replay_from}
+use Rattle.esb_core.proofs.Claims.{claim-is, scan-is, link-is, both_parts}
+use Rattle.esb_core.proofs.Readings.{at-push, at-set, begun_of}
+use Rattle.esb_core.proofs.Laws.{reads-legal}
+use Rattle.esb_sound.specs.Each.{Each, Each-from}
+use Rattle.esb_sound.specs.Serial.{doing, doing_after, Handles, InTurn, IsInTurn}
+use Rattle.esb_sound.proofs.Builds.{set-each}
+
+-- ---- the claims that a job in hand makes
+
+abbrev claims_of : ℕ → Option Job → List (ℕ × Task)
+claims_of n None = []
+claims_of n (Some (job.Scan m t)) = cond (nat_eq m n) ((0, t) ∷ []) []
+claims_of n (Some (job.Link m)) = []
+
+abbrev linker_of : ℕ → Option Job → Option ℕ
+linker_of n None = None
+linker_of n (Some (job.Scan m t)) = None
+linker_of n (Some (job.Link m)) = cond (nat_eq m n) (Some 0) None
+
+record HasThose (hand : Option Job) (n : ℕ) (b : Building) : Type 0 where
+  claims : b.claims ≡ claims_of n hand
+  linker : b.linker ≡ linker_of n hand
+
+-- of a settled build nothing is said
+abbrev Has : Option Job → ℕ → Building → Type 0
+Has hand n b = b.outcome ≡ None → HasThose hand n b
+
+abbrev AllHave : Option Job → State → Type 0
+AllHave hand s = (n : ℕ) → Has hand n (build_at s.builds n)
+
+-- a build has what another has that is claimed and settled alike
+alike : (hand : Option Job) (n : ℕ) (b c : Building) → c.outcome ≡ b.outcome → c.claims ≡ b.claims → c.linker ≡ b.linker → Has hand n b → Has hand n c
+alike hand n b c outcomes claims linkers h none =
+    let has = h (sym outcomes ∙ none) in record { claims = claims ∙ has.claims; linker = linkers ∙ has.linker }
+
+settled_is_not : {X : Type 0} (o : Outcome) → Some o ≡ None → X
+settled_is_not o e = absurd (let f : ⊥ = cc in f)
+
+self : (n : ℕ) → nat_eq n n ≡ true
+self n = grind (arith)
+
+-- where one build changes, something holds of it and of each other
+set-others : (P : ℕ → Building → Type 0) (bs : List Building) (n : ℕ) (b : Building) → n < length bs → ((k : ℕ) → nat_eq n k ≡ false → P k (build_at bs k)) → P n b → (m : ℕ) → P m (build_at (slice_set bs n b) m)
+set-others P bs n b lt others own m = subst (λ (c : Building). P m c) (sym (at-set bs n b m lt)) (by (nat_eq n m) refl)
+  where
+    by : (t : Bool) → nat_eq n m ≡ t → P m (cond t b (build_at bs m))
+    by true e = subst (λ (k : ℕ). P k b) (eqb-true n m e) own
+    by false e = others m e
+
+-- ---- jobs that are taken up and given back
+
+-- the build that a job is of
+abbrev build_of : Job → ℕ
+build_of (job.Scan n t) = n
+build_of (job.Link n) = n
+
+-- a job makes no claim in another build
+no_claims : (j : Job) (k : ℕ) → nat_eq (build_of j) k ≡ false → claims_of k (Some j) ≡ []
+no_claims (job.Scan n t) k e = ap (λ (c : Bool). cond c ((0, t) ∷ []) []) e
+no_claims (job.Link n) k e = refl
+
+no_linker : (j : Job) (k : ℕ) → nat_eq (build_of j) k ≡ false → linker_of k (Some j) ≡ None
+no_linker (job.Scan n t) k e = refl
+no_linker (job.Link n) k e = ap (λ (c : Bool). cond c (Some 0) None) e
+
+taken-up : (j : Job) (k : ℕ) (b : Building) → nat_eq (build_of j) k ≡ false → Has None k b → Has (Some j) k b
+taken-up j k b e h none = record { claims = (h none).claims ∙ sym (no_claims j k e); linker = (h none).linker ∙ sym (no_linker j k e) }
+
+given-back : (j : Job) (k : ℕ) (b : Building) → nat_eq (build_of j) k ≡ false → Has (Some j) k b → Has None k b
+given-back j k b e h none = record { claims = (h none).claims ∙ no_claims j k e; linker = (h none).linker ∙ no_linker j k e }
+
+-- ---- each change of a build
+
+scan-claimed : (n : ℕ) (b : Building) (t : Task) → Has None n b → Has (Some (job.Scan n t)) n (task_claimed b 0 t)
+scan-claimed n b t h none = record {
+  claims = ap (λ (cs : List (ℕ × Task)). cs ++ (0, t) ∷ []) (h none).claims ∙ ap (λ (c : Bool). cond c ((0, t) ∷ []) []) (sym (self n));
+  linker = (h none).linker;
+}
+
+link-claimed : (n : ℕ) (b : Building) → Has None n b → Has (Some (job.Link n)) n (link_claimed b 0)
+link-claimed n b h none = record {
+  claims = (h none).claims;
+  linker = ap (λ (c : Bool). cond c (Some 0) None) (sym (self n));
+}
+
+recorded-has : (hand : Option Job) (n : ℕ) (b : Building) (q : Question) (a : Answer) → Has hand n b → Has hand n (recorded b q a b.outcome)
+recorded-has hand n b q a h = by b.outcome
+  where
+    by : (o : Option Outcome) → Has hand n (recorded b q a o)
+    by None = alike hand n b (recorded b q a None) refl refl refl h
+    by (Some o) = h
+
+delivered-has : (n : ℕ) (b : Building) (t : Task) (p : Product) → Has (Some (job.Scan n t)) n b → Has None n (delivered b 0 t p b.outcome)
+delivered-has n b t p h = by b.outcome refl
+  where
+    own : is_claim 0 t (0, t) ≡ true
+    own = same_task-refl t
+
+    left : List (ℕ × Task) → List (ℕ × Task)
+    left cs = filter (λ claim. not (is_claim 0 t claim)) cs
+
+    gone : left ((0, t) ∷ []) ≡ []
+    gone = ap (λ (c : Bool). cond (not c) ((0, t) ∷ []) []) own
+
+    by : (o : Option Outcome) → b.outcome ≡ o → Has None n (delivered b 0 t p o)
+    by None is none = record {
+      claims = ap left ((h is).claims ∙ ap (λ (c : Bool). cond c ((0, t) ∷ []) []) (self n)) ∙ gone;
+      linker = (h is).linker;
+    }
+    by (Some o) is none = settled_is_not o (sym is ∙ none)
+
+settled-has : (hand : Option Job) (n worker : ℕ) (b : Building) (o : Outcome) → Has hand n (settled b worker o b.outcome)
+settled-has hand n worker b o = by b.outcome refl
+  where
+    by : (p : Option Outcome) → b.outcome ≡ p → Has hand n (settled b worker o p)
+    by None is none = settled_is_not o none
+    by (Some p) is none = settled_is_not p (sym is ∙ none)
+
+-- ---- steps
+
+begins : (hand : Option Job) (s : State) (id key : ℕ) (options : Options) (few : Bool) → AllHave hand s → AllHave hand (begun_if s id key options few)
+begins hand s id key options false h = h
+begins hand s id key options true h =
+    let b = Steps.fresh id key options in
+    λ n. alike hand n (build_at s.builds n) (build_at (s.builds ++ b ∷ []) n)
+    (at-push (λ c. c.outcome) s.builds b n refl) (at-push (λ c. c.claims) s.builds b n refl) (at-push (λ c. c.linker) s.builds b n refl) (h n)
+
+commands : (hand : Option Job) (s : State) (id : ℕ) (a : Asked Command) → AllHave hand s → AllHave hand (after_command s id a)
+commands hand s id (Err text) h = h
+commands hand s id (Ok (command.Build key options)) h = begins hand s id key options (nat_lt (length s.builds) most_builds) h
+
+arrives : (hand : Option Job) (s : State) (p : Packet) (t : Bool) → AllHave hand s → AllHave hand (after_packet s p t)
+arrives hand s p false h = h
+arrives hand s p true h = commands hand s p.id (asked p.value) h
+
+claims : (s : State) (j : Job) → names_job (first_job s (role.Worker 0)) j ≡ true → AllHave None s → AllHave (Some j) (Steps.after_claim s (role.Worker 0) j)
+claims s (job.Scan n t) may h =
+    set-others (λ k c. Has (Some (job.Scan n t)) k c) s.builds n (task_claimed (build_at s.builds n) 0 t) (scan-is s.builds n t (claim-is s 0 (job.Scan n t) may)).begun
+    (λ k apart. taken-up (job.Scan n t) k (build_at s.builds k) apart (h k)) (scan-claimed n (build_at s.builds n) t (h n))
+claims s (job.Link n) may h =
+    set-others (λ k c. Has (Some (job.Link n)) k c) s.builds n (link_claimed (build_at s.builds n) 0) (link-is s.builds n (claim-is s 0 (job.Link n) may)).begun
+    (λ k apart. taken-up (job.Link n) k (build_at s.builds k) apart (h k)) (link-claimed n (build_at s.builds n) (h n))
+
+delivers : (s : State) (n : ℕ) (t : Task) (p : Product) → n < length s.builds → AllHave (Some (job.Scan n t)) s
+    → AllHave None (Steps.changed s n (delivered (build_at s.builds n) 0 t p (build_at s.builds n).outcome))
+delivers s n t p lt h =
+    set-others (λ k c. Has None k c) s.builds n (delivered (build_at s.builds n) 0 t p (build_at s.builds n).outcome) lt
+    (λ k apart. given-back (job.Scan n t) k (build_at s.builds k) apart (h k)) (delivered-has n (build_at s.builds n) t p (h n))
+
+settles : (s : State) (worker : ℕ) (o : Outcome) (j : Job) → build_of j < length s.builds → AllHave (Some j) s → AllHave None (Steps.after_settle s worker (build_of j) o)
+settles s worker o j lt h =
+    set-others (λ k c. Has None k c) s.builds (build_of j) (settled (build_at s.builds (build_of j)) worker o (build_at s.builds (build_of j)).outcome) lt
+    (λ k apart. given-back j k (build_at s.builds k) apart (h k)) (settled-has None (build_of j) worker (build_at s.builds (build_of j)) o)
+
+-- each step of an event that is allowed, where the one worker handles one job at a time
+step : (s : State) (before : List Event) (e : Event) → allowed s e ≡ true → Handles before e → AllHave (doing before) s → AllHave (doing_after (doing before) e) (after s e)
+step s before (event.Arrive packet) may handles h = arrives (doing before) s packet packet.request h
+step s before event.EndOfInput may handles h = h
+step s before (event.Claim ro j) may handles h =
+    subst (λ (r : Role). AllHave (Some j) (Steps.after_claim s r j)) (sym handles.0)
+    (claims s j (ap (λ (r : Role). names_job (first_job s r) j) (sym handles.0) ∙ may) (subst (λ (hand : Option Job). AllHave hand s) handles.1 h))
+step s before (event.Record worker n q a) may handles h =
+    set-each (λ k c. Has (doing before) k c) s.builds n (recorded (build_at s.builds n) q a (build_at s.builds n).outcome)
+    (ltb-true n (length s.builds) (both_parts (has_begun s n) (fits q a) may).0) h (recorded-has (doing before) n (build_at s.builds n) q a (h n))
+step s before (event.Deliver worker n t p) may handles h =
+    subst (λ (w : ℕ). AllHave None (Steps.changed s n (delivered (build_at s.builds n) w t p (build_at s.builds n).outcome))) (sym handles.0)
+    (delivers s n t p (ltb-true n (length s.builds) (both_parts (has_begun s n) (has_task (build_at s.builds n) worker t && product_fits t p) may).0)
+    (subst (λ (hand : Option Job). AllHave hand s) handles.1 h))
+step s before (event.Settle worker n o) may handles h = by handles.1
+  where
+    lt : n < length s.builds
+    lt = ltb-true n (length s.builds) (both_parts (has_begun s n) (may_settle (build_at s.builds n) worker o) may).0
+
+    by : (doing before ≡ Some (job.Link n)) ⊎ ((t : Task) × (doing before ≡ Some (job.Scan n t))) → AllHave None (Steps.after_settle s worker n o)
+    by (inl link) = settles s worker o (job.Link n) lt (subst (λ (hand : Option Job). AllHave hand s) link h)
+    by (inr scan) = settles s worker o (job.Scan n scan.0) lt (subst (λ (hand : Option Job). AllHave hand s) scan.1 h)
+step s before event.Pop may handles h = h
+
+-- ---- lists
+
+fold-push : {X Y : Type 0} (f : Y → X → Y) (y : Y) (xs : List X) (x : X) → fold f y (xs ++ x ∷ []) ≡ f (fold f y xs) x
+fold-push f y [] x = refl
+fold-push f y (w ∷ xs) x = fold-push f (f y w) xs x
+
+list_end : {X : Type 0} (xs : List X) → xs ++ [] ≡ xs
+list_end [] = refl
+list_end (x ∷ xs) = ap (λ ys. x ∷ ys) (list_end xs)
+
+have-from : (s : State) (before more : List Event) → is_legal_from s more ≡ true → Each-from Handles before more → AllHave (doing before) s → AllHave (doing (before ++ more)) (replay_from s more)
+have-from s before [] legal all h = subst (λ (es : List Event). AllHave (doing es) s) (sym (list_end before)) h
+have-from s before (e ∷ more) legal all h =
+    let parts = both_parts (allowed s e) (is_legal_from (after s e) more) legal in
+    let now = subst (λ (hand : Option Job). AllHave hand (after s e)) (sym (fold-push doing_after None before e)) (step s before e parts.0 all.0 h) in
+    subst (λ (es : List Event). AllHave (doing es) (replay_from (after s e) more)) (append_assoc before (e ∷ []) more)
+    (have-from (after s e) (before ++ e ∷ []) more parts.1 all.1 now)
+
+at_start : AllHave None start
+at_start n none = record { claims = refl; linker = refl }
+
+-- ---- where nothing is in hand and nothing is open
+
+no-first : (n : ℕ) (bs : List Building) (k : ℕ) → first_from n bs ≡ None → k < length bs → job_of (n + k) (build_at bs k) ≡ None
+no-first n [] k e lt = absurd (omega arith)
+no-first n (b ∷ bs) k e lt = by (job_of n b) refl e k lt (λ m rest inside. no-first (n + 1) bs m rest inside)
+  where
+    by : (o : Option Job) → job_of n b ≡ o → or_next o (first_from (n + 1) bs) ≡ None → (k : ℕ) → k < length (b ∷ bs)
+        → ((m : ℕ) → first_from (n + 1) bs ≡ None → m < length bs → job_of (n + 1 + m) (build_at bs m) ≡ None) → job_of (n + k) (build_at (b ∷ bs) k) ≡ None
+    by None own rest zero lt more = ap (λ (m : ℕ). job_of m b) (omega arith) ∙ own
+    by None own rest (suc k) lt more = ap (λ (m : ℕ). job_of m (build_at bs k)) (omega arith) ∙ more k rest (omega arith)
+    by (Some j) own rest k lt more = absurd (let h : Some j ≡ None = rest in let f : ⊥ = cc in f)
+
+-- a build without claims that has no open job is settled
+no-job : (n : ℕ) (b : Building) → Has None n b → job_of n b ≡ None → IsSome b.outcome
+no-job n b h e = by b.outcome refl e
+  where
+    scanned : HasThose None n b → is_scanned b ≡ true
+    scanned has = ap (λ (cs : List (ℕ × Task)). nat_eq (length cs) 0 && is_none b.linker) has.claims ∙ ap (λ (l : Option ℕ). is_none l) has.linker
+
+    not_open : (t : Bool) → t ≡ true → link_if n t ≡ None → ⊥
+    not_open true is none = let h : Some (job.Link n) ≡ None = none in cc
+    not_open false is none = cc
+
+    no_task : HasThose None n b → (o : Option Task) → job_by n b o ≡ None → ⊥
+    no_task has (Some t) none = let h : Some (job.Scan n t) ≡ None = none in cc
+    no_task has None none = not_open (is_scanned b) (scanned has) none
+
+    by : (o : Option Outcome) → b.outcome ≡ o → job_unless n b o ≡ None → IsSome b.outcome
+    by (Some o) is none = ap (λ (p : Option Outcome). is_some p) is
+    by None is none = absurd (no_task (h is) (slice_get b.tasks b.claimed) none)
+
+pub all-done : (events : List Event) → is_legal events ≡ true → Each Handles events → doing events ≡ None → first_job (replay events) (role.Worker 0) ≡ None → (n : ℕ) → n < length (builds events)
+    → IsSome (outcome events n)
+all-done events legal handled free none n lt =
+    let r = reads-legal events legal in
+    let s = replay events in
+    let same : length (builds events) ≡ length s.builds = ap length (sym r.begun) ∙ length-map s.builds begun_of in
+    let inside : n < length s.builds = omega (arith, same, lt) in
+    let all = subst (λ (hand : Option Job). AllHave hand s) free (have-from start [] events legal handled at_start) in
+    let is = no-job n (build_at s.builds n) (all n) (ap (λ (m : ℕ). job_of m (build_at s.builds n)) (omega arith) ∙ no-first 0 s.builds n none inside) in
+    subst (λ (o : Option Outcome). IsSome o) (r.outcomes n) is
+
+-- ---- histories in turn
+
+handled-from : (tells : Type 0) (world : List Folder) (before more : List Event) → Each-from (IsInTurn tells world) before more → Each-from Handles before more
+handled-from tells world before [] all = tt
+handled-from tells world before (e ∷ more) all = (all.0.handles, handled-from tells world (before ++ e ∷ []) more all.1)
+
+-- the one worker handles each event of a history in turn
+pub in-turn-handled : (tells : Type 0) (world : List Folder) (events : List Event) → InTurn tells world events → Each Handles events
+in-turn-handled tells world events turns = handled-from tells world [] events turns
+
+pub in-turn-done : (tells : Type 0) (world : List Folder) (events : List Event) → is_legal events ≡ true → InTurn tells world events → doing events ≡ None
+    → first_job (replay events) (role.Worker 0) ≡ None → (n : ℕ) → n < length (builds events) → IsSome (outcome events n)
+in-turn-done tells world events legal turns = all-done events legal (in-turn-handled tells world events turns)
