@@ -1,22 +1,20 @@
 -- Lists of events with one more event.
-use Rattle.std.proofs.Common.{◌≡◌, ◌⊎◌, ℕ, ◌+◌, ◌-◌, ◌^◌, ◌<◌, ◌≤◌, Bool, true, false, cond, List, [], ◌∷◌, ◌++◌, inl, inr, refl, sym, ap, subst, ◌∙◌, append_assoc, arith}
+use Rattle.std.proofs.Common.{◌≡◌, ℕ, ◌+◌, ◌≤◌, Bool, true, false, cond, List, [], ◌∷◌, ◌++◌, inl, inr, refl, sym, ap, subst, ◌∙◌, append_assoc, arith}
 use Rattle.std.specs.List.{flat_map, AllByRecursion}
 use Rattle.std.proofs.lemmas.List.Sums.{sum_by-append}
 use Rattle.esb_base.specs.World.{Folder}
 use Rattle.esb_base.specs.Faults.{Rose}
-use Rattle.esb_wire.specs.declared.value.Packet.{Packet}
 use Rattle.esb_core.specs.declared.event.Event.{Event}
-use Rattle.esb_core.specs.declared.event.Event.TheVariants as event
 use Rattle.esb_core.specs.State.{State, start}
 use Rattle.esb_core.specs.Steps.{after}
 use Rattle.esb_core.specs.History.{arrived, replay}
 use Rattle.esb_core.proofs.Pushes.{gathered-push}
 use Rattle.esb_core.proofs.Replays.{replay_from-append}
 use Rattle.esb_sound.specs.Each.{Each, Each-from}
-use Rattle.esb_sound.specs.Serial.{InTurn, IsInTurn}
+use Rattle.esb_sound.specs.Serial.{IsInTurn}
 use Rattle.esb_sound.specs.Sound.{Sound, IsSound}
 use Rattle.esb_sound.specs.Sent.{arrivals, sends, sent_packets}
-use Rattle.esb_sound.specs.Told.{AreTold, IsTold, RoseBy, faults, is_fault_record}
+use Rattle.esb_sound.specs.Told.{IsTold, RoseBy, faults, is_fault_record}
 use Rattle.esb_top.specs.Work.{Worked}
 
 pub list_end : {X : Type 0} (xs : List X) → xs ++ [] ≡ xs

@@ -1,5 +1,5 @@
 -- A session is as promised.
-use Rattle.std.proofs.Common.{◌≡◌, ◌⊎◌, ℕ, ◌+◌, ◌<◌, ◌≤◌, cond, Option, Some, None, Bool, true, false, not, ◌||◌, List, [], ◌∷◌, ◌++◌, inl, inr, refl, sym, ap, subst, ◌∙◌, arith, eqb}
+use Rattle.std.proofs.Common.{◌≡◌, ◌⊎◌, ℕ, ◌<◌, ◌≤◌, cond, Option, Some, Bool, true, false, List, [], ◌∷◌, ◌++◌, inl, inr, refl, sym, ap, subst, ◌∙◌, arith}
 use Rattle.std.specs.List.{flat_map, list_any}
 use Rattle.std.proofs.lemmas.Bool.{false≢true}
 use Rattle.std.proofs.lemmas.List.Sums.{sum_by-append}
@@ -7,10 +7,7 @@ use Rattle.esb_ask.specs.declared.outcome.Outcome.{Outcome}
 use Rattle.esb_core.specs.State.{State, start}
 use Rattle.esb_core.proofs.Laws.{reads-legal}
 use Rattle.esb_core.proofs.Pushes.{builds-push, or_later-None, outcome-push}
-use Rattle.esb_core.specs.Allowed.{first_job}
-use Rattle.esb_core.specs.declared.event.Role.TheVariants as roles
-use Rattle.esb_base.specs.World.{Folder}
-use Rattle.esb_sound.specs.Serial.{doing}
+use Rattle.esb_sound.proofs.Hands.{in-turn-done}
 use Rattle.esb_core.proofs.Claims.{both_parts}
 use Rattle.esb_core.proofs.Replays.{is_legal_from-append}
 use Rattle.std.specs.Prelude.{Result, Ok, Err, IfOk, IsSome, OnErr, length}
@@ -31,14 +28,14 @@ use Rattle.esb_top.specs.declared.session.Ending.TheVariants as endings
 use Rattle.esb_top.specs.Entries.{Entries}
 use Rattle.esb_wire.specs.Budget.{budget}
 use Rattle.esb_wire.specs.Stream.{Counts}
-use Rattle.esb_sound.specs.Serial.{InTurn, IsSerial, input_step, is_lapse, is_refused, lapses, next}
+use Rattle.esb_sound.specs.Serial.{InTurn, IsSerial, input_step, is_lapse, is_refused, lapses}
 use Rattle.esb_sound.proofs.Serial.{all-follow, get-past}
 use Rattle.esb_wire.specs.declared.reader.Stop.TheVariants as stops
 use Rattle.esb_top.specs.Input.{Begins, EndsBy, HasRead, IsStopped, stop_of}
 use Rattle.esb_top.specs.Turn.{IsAtRest}
 use Rattle.esb_top.proofs.InOrder.{next-read}
 use Rattle.esb_top.specs.Output.{IsWritten, Wrote, FailedSince}
-use Rattle.esb_top.specs.Serving.{Ends, Outside, Refused, Serving}
+use Rattle.esb_top.specs.Serving.{Ends, Outside, Refused}
 use Rattle.esb_top.specs.Session.{IsSession, IsCutAt, is_known, is_whole, status_by, status_if, status_of}
 use Rattle.esb_top.specs.Words.{greeting}
 use Rattle.esb_top.specs.Work.{Goes}
@@ -52,10 +49,6 @@ sent-end es fs is = ap sent is ∙ ap (λ (ps : List Packet). flat_map written_f
 
 arrivals-end : (es fs : List Event) → fs ≡ es ++ events.EndOfInput ∷ [] → arrivals fs ≡ arrivals es
 arrivals-end es fs is = ap arrivals is ∙ arrivals-push es events.EndOfInput ∙ list_end (arrivals es)
-
-builds_are_done : (tells : Type 0) (world : List Folder) (events : List Event) → is_legal events ≡ true → InTurn tells world events → doing events ≡ None
-    → first_job (replay events) (roles.Worker 0) ≡ None → (n : ℕ) → n < length (builds events) → IsSome (outcome events n)
-builds_are_done = ?
 
 neither : {A B X : Type 0} → A ⊎ B → (A → X) → (B → X) → X
 neither (inl a) f g = f a
@@ -206,7 +199,7 @@ module _ (ht kt st : Type 0) (was mid : Outside) (old : Entries) (fresh : old.ev
     final_settled : is_legal final ≡ true → IsAtRest new.events → (n : ℕ) → n < length (builds final) → IsSome (outcome final n)
     final_settled legal rest n lt =
         subst (λ (o : Option Outcome). IsSome o) (sym (outcome-end n))
-        (builds_are_done ht mid.world new.events (legal_before legal) (goes.in_turn start_turn) rest.free rest.no_job n (subst (λ (bs : List Begun). n < length bs) builds-end lt))
+        (in-turn-done ht mid.world new.events (legal_before legal) (goes.in_turn start_turn) rest.free rest.no_job n (subst (λ (bs : List Begun). n < length bs) builds-end lt))
 
     -- a session whose input was read to an ending
     made : (status reads : ℕ) (held : List ℕ) → is_known status ≡ true → is_legal final ≡ true → IsAtRest new.events → HasRead mid.gave now.gave 0 reads

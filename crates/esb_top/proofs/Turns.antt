@@ -1,5 +1,5 @@
 -- What the turns of a session leave.
-use Rattle.std.proofs.Common.{Some, ◌≡◌, ◌⊎◌, ℕ, ◌+◌, ◌-◌, ◌^◌, ◌<◌, ◌≤◌, Bool, true, false, cond, List, [], ◌∷◌, ◌++◌, inl, inr, refl, sym, ap, subst, ◌∙◌, arith}
+use Rattle.std.proofs.Common.{Some, ◌≡◌, ℕ, ◌+◌, ◌-◌, ◌≤◌, false, List, [], ◌∷◌, ◌++◌, inl, inr, refl, sym, ap, subst, ◌∙◌, arith}
 use Rattle.std.proofs.Common.{Result, Ok, Err}
 use Rattle.std.specs.Prelude.{IfOk}
 use Rattle.std.specs.List.{flat_map}
@@ -10,18 +10,17 @@ use Rattle.esb_wire.specs.Spelling.{frame}
 use Rattle.esb_core.specs.declared.event.Event.{Event}
 use Rattle.esb_core.specs.declared.event.Event.TheVariants as events
 use Rattle.esb_core.specs.State.{State}
-use Rattle.esb_core.specs.Steps.{after, after_command}
+use Rattle.esb_core.specs.Steps.{after}
 use Rattle.esb_core.specs.History.{replay}
 use Rattle.esb_sound.specs.Each.{Each-from}
 use Rattle.esb_sound.specs.Serial.{InTurn, IsInTurn, next}
-use Rattle.esb_sound.specs.Sound.{Sound, IsSound}
+use Rattle.esb_sound.specs.Sound.{IsSound}
 use Rattle.esb_sound.specs.Sent.{arrivals, sent, sent_packets}
 use Rattle.esb_sound.specs.Told.{AreTold, IsTold, RoseBy, faults}
 use Rattle.esb_base.specs.Faults.{Rose}
 use Rattle.esb_top.specs.declared.session.Ending.{Ending}
 use Rattle.esb_top.specs.declared.session.Ending.TheVariants as endings
-use Rattle.esb_wire.specs.Stream.{Counts}
-use Rattle.esb_top.specs.Input.{ArrivesOne, Begins, EndsBy, HasRead, IsRead}
+use Rattle.esb_top.specs.Input.{ArrivesOne, EndsBy, HasRead}
 use Rattle.esb_top.specs.Output.{PopsOne, Wrote}
 use Rattle.esb_top.specs.Entries.{Entries}
 use Rattle.esb_top.specs.Serving.{Outside, Refused, Serving}

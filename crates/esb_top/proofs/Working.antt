@@ -1,10 +1,9 @@
 -- What each event of the work leaves.
-use Rattle.std.proofs.Common.{map, zero, suc, ◌≡◌, ◌⊎◌, ℕ, ◌+◌, ◌<◌, ◌≤◌, Bool, true, false, cond, not, ◌&&◌, List, [], ◌∷◌, ◌++◌, length, Option, None, Some, inl, inr, refl, sym, ap, subst, ◌∙◌, arith, nat_eq, nat_lt, ◌||◌, slice_set, length-set, slice_index_or}
+use Rattle.std.proofs.Common.{map, zero, suc, ◌≡◌, ◌⊎◌, ℕ, ◌+◌, ◌<◌, ◌≤◌, Bool, true, false, ◌&&◌, List, [], ◌∷◌, ◌++◌, length, Option, None, Some, inl, inr, refl, sym, ap, subst, ◌∙◌, arith, nat_eq, ◌||◌, slice_set, length-set, slice_index_or}
 use Rattle.std.specs.List.{list_any}
 use Rattle.std.proofs.lemmas.List.{get_or-set_same}
-use Rattle.std.proofs.lemmas.Bool.{false≢true, eqb-true, ltb-true, lt-ltb, eq-eqb}
+use Rattle.std.proofs.lemmas.Bool.{false≢true, lt-ltb, eq-eqb}
 use Rattle.esb_base.specs.World.{Folder}
-use Rattle.esb_base.specs.Faults.{Rose}
 use Rattle.esb_flags.specs.declared.options.Options.{Options}
 use Rattle.esb_ask.specs.declared.question.Question.{Question}
 use Rattle.esb_ask.specs.declared.answer.Answer.{Answer}
@@ -24,24 +23,23 @@ use Rattle.esb_ask.proofs.Tables.{same-refl}
 use Rattle.esb_core.specs.declared.event.Event.{Event}
 use Rattle.esb_core.specs.declared.event.Event.TheVariants as event
 use Rattle.esb_core.specs.State.{Building, State, build_at, no_build}
-use Rattle.esb_core.specs.Steps
 use Rattle.esb_core.specs.Steps.{after, recorded, is_claim, task_claimed, link_claimed}
 use Rattle.esb_core.specs.Allowed.{allowed, has_task, has_begun, has_claim, is_linker, first_job, first_from, job_of, names_job, same_job}
-use Rattle.esb_core.specs.History.{Begun, build, builds, no_begun, table, is_legal, replay}
-use Rattle.esb_core.proofs.Readings.{Reads, begun_of}
+use Rattle.esb_core.specs.History.{Begun, build, no_begun, table, is_legal, replay}
+use Rattle.esb_core.proofs.Readings.{begun_of}
 use Rattle.esb_core.proofs.Laws.{reads-legal}
 use Rattle.esb_scan.specs.declared.run.Run.TheVariants as runs
 use Rattle.esb_scan.specs.Run.{run, trail}
 use Rattle.esb_scan.proofs.Runs.{asks_new, run_fits}
 use Rattle.esb_sound.specs.Serial.{IsInTurn, doing}
-use Rattle.esb_sound.specs.Sound.{Sound, IsSound, IsAsked, IsLinked}
-use Rattle.esb_sound.specs.Told.{IsTold, is_fault, is_fault_record, told}
-use Rattle.esb_top.specs.Entries.{Entries, Added, AddedWithin, Kept}
+use Rattle.esb_sound.specs.Sound.{IsLinked}
+use Rattle.esb_sound.specs.Told.{is_fault}
+use Rattle.esb_top.specs.Entries.{Entries, AddedWithin}
 use Rattle.esb_top.specs.Work.{Worked, AtWork, AtLink, Answered, Linked}
 use Rattle.esb_scan.specs.Complete.{IsComplete}
 use Rattle.esb_top.specs.Turn.{IsFree}
 use Rattle.esb_top.proofs.InOrder.{claim-in_turn, deliver-in_turn, doing-is, record-in_turn, refusal-in_turn, settle-in_turn}
-use Rattle.esb_top.proofs.Histories.{IsOfWork, replay-push, worked-push, worked-refl, worked-trans}
+use Rattle.esb_top.proofs.Histories.{IsOfWork, replay-push, worked-push, worked-trans}
 
 -- ---- the direct answers about a legal list
 

@@ -1,10 +1,9 @@
 -- A session on one thread, from its begin.
-use Rattle.std.specs.Prelude.{◌≡◌, ℕ, ◌≤◌, Bool, false, List, ◌++◌, Option, None}
+use Rattle.std.specs.Prelude.{◌≡◌, ℕ, ◌≤◌, Bool, false, List, ◌++◌, Option}
 use Rattle.std.specs.List.{flat_map}
 use Rattle.esb_wire.specs.Spelling.{frame}
 use Rattle.esb_base.specs.Faults.{Rose}
 use Rattle.esb_base.specs.World.{Folder}
-use Rattle.esb_wire.specs.declared.reader.Stop.{Stop}
 use Rattle.esb_sound.specs.Sent.{arrivals, sent}
 use Rattle.esb_top.specs.declared.session.Ending.{Ending}
 use Rattle.esb_top.specs.Entries.{Entries}

@@ -1,5 +1,5 @@
 -- What the work on builds leaves of a history.
-use Rattle.std.specs.Prelude.{◌≡◌, ◌⊎◌, ℕ, ◌+◌, ◌<◌, ◌≤◌, Bool, true, [], ◌∷◌, ◌++◌, List, length, Option, Some, None}
+use Rattle.std.specs.Prelude.{◌≡◌, ◌⊎◌, ℕ, ◌+◌, ◌<◌, ◌≤◌, true, [], ◌∷◌, ◌++◌, List, length, Some, None}
 use Rattle.esb_base.specs.World.{Folder}
 use Rattle.esb_base.specs.Faults.{Rose}
 use Rattle.esb_ask.specs.declared.task.Task.{Task}

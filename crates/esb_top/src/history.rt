@@ -63,9 +63,13 @@ impl History {
     pub(crate) fn has_refusal(&self) -> bool
         ensures { result ≡ list_any is_refused self.now.events }
     {
-        self.events
-            .iter()
-            .any(|event| matches!(event, Event::Settle { outcome: Outcome::Memory, .. }))
+        self.events.iter().any(|event| matches!(
+            event,
+            Event::Settle {
+                outcome: Outcome::Memory,
+                ..
+            }
+        ))
     }
 
     /// The events are legal.

@@ -104,14 +104,7 @@ fn converse<S: Source, K: Sink, H: Host>(
         return end_with(alloc, 5, no_events(alloc));
     };
     let mut whole = put(sink, &GREETING, true);
-    let ending = serve(
-        alloc,
-        &mut history,
-        source,
-        sink,
-        host,
-        &mut whole,
-    );
+    let ending = serve(alloc, &mut history, source, sink, host, &mut whole);
     history.end_of_input();
     history.is_legal();
     let status = status_of(ending, whole, history.has_refusal());

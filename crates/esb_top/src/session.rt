@@ -50,11 +50,7 @@ fn send_first<K: Sink>(
 }
 
 /// Does the worker's first open job. It tells whether there was one.
-fn work_first<H: Host>(
-    alloc: Global,
-    history: &mut History,
-    host: &mut H,
-) -> Result<bool, Memory>
+fn work_first<H: Host>(alloc: Global, history: &mut History, host: &mut H) -> Result<bool, Memory>
     requires sound { Sound history.old.events }
     requires free { IsFree history.old.events }
     requires none_owed { (replay history.old.events).owed ≡ [] }
@@ -186,15 +182,7 @@ pub(crate) fn serve<S: Source, K: Sink, H: Host>(
     let mut reader = Reader::new(alloc);
     // No session takes so many turns.
     for _ in 0..u64::MAX {
-        let ended = turn(
-            alloc,
-            history,
-            &mut reader,
-            source,
-            sink,
-            host,
-            whole,
-        )?;
+        let ended = turn(alloc, history, &mut reader, source, sink, host, whole)?;
         if let Some(ending) = ended {
             return Ok(ending);
         }

@@ -153,13 +153,7 @@ fn linked(alloc: Global, options: &Options, table: &Table) -> Outcome
 }
 
 /// Does a claimed task. Where memory is refused the build is settled so.
-fn scan<H: Host>(
-    alloc: Global,
-    history: &mut History,
-    host: &mut H,
-    build: u32,
-    task: &Task,
-)
+fn scan<H: Host>(alloc: Global, history: &mut History, host: &mut H, build: u32, task: &Task)
     requires at { AtWork (replay history.old.events) build task.now }
     requires in_hand { doing history.old.events ≡ Some (Job.Scan build task.now) }
     requires room { 0 < history.old.promised }

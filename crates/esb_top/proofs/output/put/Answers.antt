@@ -1,4 +1,4 @@
-use Rattle.std.proofs.Common.{◌≡◌, ◌++◌, List, ℕ, true, Bool, ap, sym, subst}
+use Rattle.std.proofs.Common.{◌++◌, Bool, sym, subst}
 use Rattle.esb_top.specs.Output.{IsWritten}
 use Rattle.esb_top.proofs.Outputs.{wrote-more}
 use Rattle.esb_top.proofs.output.put.Goals as goal

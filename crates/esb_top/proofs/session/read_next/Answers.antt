@@ -1,8 +1,5 @@
-use Rattle.std.proofs.Common.{◌≡◌, List, ◌++◌, ◌∷◌, [], inr, sym, subst, ◌∙◌}
-use Rattle.esb_core.specs.declared.event.Event.{Event}
+use Rattle.std.proofs.Common.{inr, ◌∙◌}
 use Rattle.esb_core.specs.declared.event.Event.TheVariants as events
-use Rattle.esb_sound.specs.Serial.{InTurn, IsInTurn}
-use Rattle.esb_top.proofs.Histories.{each-push}
 use Rattle.esb_top.proofs.InOrder.{arrive-in_turn, doing-is}
 use Rattle.esb_core.specs.History.{replay}
 use Rattle.esb_top.proofs.Proper.{arrival-is_allowed}

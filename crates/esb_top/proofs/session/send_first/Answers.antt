@@ -1,10 +1,8 @@
 use Rattle.esb_core.specs.History.{replay}
 use Rattle.esb_sound.specs.Sent.{sent}
-use Rattle.std.proofs.Common.{◌++◌, ◌∷◌, [], ◌≡◌, List, ℕ, inl, sym, ap, subst, ◌∙◌}
+use Rattle.std.proofs.Common.{◌++◌, List, inl, sym, ap, ◌∙◌}
 use Rattle.esb_core.specs.declared.event.Event.{Event}
-use Rattle.esb_core.specs.declared.event.Event.TheVariants as events
 use Rattle.esb_top.proofs.InOrder.{popped-free, popped-in_turn, unowed}
-use Rattle.esb_top.specs.Output.{IsWritten}
 use Rattle.esb_top.proofs.Outputs.{on_err, popped-err, popped-ok, ready-after}
 use Rattle.esb_top.proofs.session.send_first.Goals as goal
 

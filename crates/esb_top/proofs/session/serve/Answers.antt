@@ -1,8 +1,7 @@
-use Rattle.std.proofs.Common.{◌≡◌, ◌++◌}
-use Rattle.esb_top.specs.Serving.{Ends, Outside, Refused, Serving}
-use Rattle.esb_top.specs.Input.{HasRead}
+use Rattle.std.proofs.Common.{◌++◌}
+use Rattle.esb_top.specs.Serving.{Outside, Serving}
 use Rattle.esb_top.proofs.Outputs.{on_err, wrote-part}
-use Rattle.esb_top.proofs.Turns.{RefusedNow, ends-earlier, read-refl, read-trans, refused-trans, serving-refl, serving-trans}
+use Rattle.esb_top.proofs.Turns.{RefusedNow, ends-earlier, read-trans, refused-trans, serving-trans}
 use Rattle.esb_top.proofs.session.serve.Goals as goal
 
 pub returns-in_err-ended-clause-err : goal.returns-in_err-ended-clause-err

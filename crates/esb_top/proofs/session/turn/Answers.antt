@@ -1,9 +1,8 @@
-use Rattle.std.proofs.Common.{◌≡◌, ◌++◌, ℕ, List, Result, Ok, Err, sym, ap, subst, ◌∙◌}
-use Rattle.std.specs.Prelude.{IfOk}
+use Rattle.std.proofs.Common.{◌++◌, ℕ, List, sym, ap, subst, ◌∙◌}
 use Rattle.std.specs.List.{flat_map}
 use Rattle.esb_wire.specs.Spelling.{frame}
-use Rattle.esb_sound.specs.Sent.{arrivals, sent}
-use Rattle.esb_top.specs.Output.{Wrote, IsWritten}
+use Rattle.esb_sound.specs.Sent.{arrivals}
+use Rattle.esb_top.specs.Output.{IsWritten}
 use Rattle.esb_top.proofs.Turns.{arrivals-pops, goes-arrives, goes-pops, goes-trans, goes-worked, if_ok, if_ok-map, sent-arrives, sent-worked}
 use Rattle.esb_core.specs.declared.event.Event.{Event}
 use Rattle.esb_top.proofs.InOrder.{turns-one}

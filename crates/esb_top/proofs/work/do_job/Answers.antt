@@ -1,11 +1,10 @@
 use Rattle.esb_core.specs.History.{replay}
 use Rattle.esb_core.specs.declared.event.Job.TheVariants as job
 use Rattle.esb_top.proofs.Histories.{worked-trans}
-use Rattle.std.proofs.Common.{◌∙◌}
 use Rattle.esb_core.specs.declared.event.Event.TheVariants as event
 use Rattle.esb_core.specs.declared.event.Role.TheVariants as role
 use Rattle.esb_top.proofs.InOrder.{doing-is}
-use Rattle.esb_top.proofs.Working.{IsNextJob, at-link, at-scan, claimed-step, complete-after, link-job, linked-step, may-claim}
+use Rattle.esb_top.proofs.Working.{at-link, at-scan, claimed-step, complete-after, link-job, linked-step, may-claim}
 use Rattle.esb_top.proofs.work.do_job.Goals as goal
 
 pub claim-requires : goal.claim-requires

@@ -1,4 +1,4 @@
-use Rattle.std.proofs.Common.{true, ◌≡◌, List, Result, Ok, Err, OnOk, OnErr, ap, sym, subst, ◌∙◌, ◌++◌, ◌∷◌, []}
+use Rattle.std.proofs.Common.{true, ◌≡◌, List, Result, Ok, Err, OnOk, OnErr, sym, subst}
 use Rattle.esb_base.specs.World.{Folder}
 use Rattle.esb_base.specs.declared.memory.Memory.{Memory}
 use Rattle.esb_flags.specs.declared.options.Options.{Options}
