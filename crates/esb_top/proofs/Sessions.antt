@@ -31,12 +31,12 @@ use Rattle.esb_wire.specs.Stream.{Counts}
 use Rattle.esb_sound.specs.Serial.{InTurn, IsSerial, input_step, is_lapse, is_refused, lapses}
 use Rattle.esb_sound.proofs.Serial.{all-follow, get-past}
 use Rattle.esb_wire.specs.declared.reader.Stop.TheVariants as stops
-use Rattle.esb_top.specs.Input.{Begins, EndsBy, HasRead, IsStopped, stop_of}
+use Rattle.esb_top.specs.Input.{Begins, EndsBy, HasRead, IsAt, IsStopped, arrived_bytes, stop_of}
 use Rattle.esb_top.specs.Turn.{IsAtRest}
 use Rattle.esb_top.proofs.InOrder.{next-read}
 use Rattle.esb_top.specs.Output.{IsWritten, Wrote, FailedSince}
 use Rattle.esb_top.specs.Serving.{Ends, Outside, Refused}
-use Rattle.esb_top.specs.Session.{IsSession, IsCutAt, is_known, is_whole, status_by, status_if, status_of}
+use Rattle.esb_top.specs.Session.{IsSession, IsCutAt, is_known, is_whole, place_if, place_of, status_by, status_if, status_of}
 use Rattle.esb_top.specs.Words.{greeting}
 use Rattle.esb_top.specs.Work.{Goes}
 use Rattle.esb_top.proofs.Histories.{replay-push, list_end, each-push, all-push, arrivals-push, sent-push, faults-push}
@@ -54,13 +54,20 @@ neither : {A B X : Type 0} → A ⊎ B → (A → X) → (B → X) → X
 neither (inl a) f g = f a
 neither (inr b) f g = g b
 
+-- a session in which a write failed tells no place
+unplaced-by : (ending : Ending) → place_if false ending ≡ 0
+unplaced-by endings.Done = refl
+unplaced-by (endings.Malformed place) = refl
+unplaced-by endings.ReadFault = refl
+unplaced-by endings.Budget = refl
+
 -- nothing was written so far
 pub wrote-nothing : (before : List ℕ) → IsWritten before before [] true
 wrote-nothing before = record { written = []; left = []; parts = refl; holds = sym (list_end before); all = λ e. refl }
 
 -- a session says nothing of whether a sink is whole
-any-whole : (ht kt st : Type 0) (was now : Outside) (status : ℕ) (journal : List Event) → IsSession ht kt st was now status journal → IsSession ht kt st was (record now { whole = true }) status journal
-any-whole ht kt st was now status journal s = record {
+any-whole : (ht kt st : Type 0) (was now : Outside) (status place : ℕ) (journal : List Event) → IsSession ht kt st was now status place journal → IsSession ht kt st was (record now { whole = true }) status place journal
+any-whole ht kt st was now status place journal s = record {
   known = s.known;
   legal = s.legal;
   ended = s.ended;
@@ -79,6 +86,8 @@ any-whole ht kt st was now status journal s = record {
   stream = s.stream;
   stopped = s.stopped;
   malformed = s.malformed;
+  placed = s.placed;
+  unplaced = s.unplaced;
   whole_input = s.whole_input;
   reads = s.reads;
   read = s.read;
@@ -147,7 +156,7 @@ module _ (ht kt st : Type 0) (was mid : Outside) (old : Entries) (fresh : old.ev
     start_read : st → was.unread ≡ flat_map frame (arrivals old.events) ++ mid.unread
     start_read t = subst (λ (es : List Event). was.unread ≡ flat_map frame (arrivals es) ++ mid.unread) (sym fresh) (sym same_unread)
 
-    pub session-refused : is_legal final ≡ true → Refused ht kt st mid now old new → IsSession ht kt st was now 5 final
+    pub session-refused : is_legal final ≡ true → Refused ht kt st mid now old new → IsSession ht kt st was now 5 0 final
     session-refused legal r = record {
       known = refl;
       legal = legal;
@@ -167,6 +176,8 @@ module _ (ht kt st : Type 0) (was mid : Outside) (old : Entries) (fresh : old.ev
       stream = λ t. subst (λ (ps : List Packet). Begins was.unread (flat_map frame ps)) (sym (arrivals-end new.events final is)) (r.stream was.unread start_read t);
       stopped = λ not_five. absurd (not_five refl);
       malformed = λ e. absurd cc;
+      placed = λ e. absurd cc;
+      unplaced = λ e. refl;
       whole_input = λ e. absurd cc;
       reads = r.reads;
       read = final_reads r.reads r.read;
@@ -202,13 +213,16 @@ module _ (ht kt st : Type 0) (was mid : Outside) (old : Entries) (fresh : old.ev
         (in-turn-done ht mid.world new.events (legal_before legal) (goes.in_turn start_turn) rest.free rest.no_job n (subst (λ (bs : List Begun). n < length bs) builds-end lt))
 
     -- a session whose input was read to an ending
-    made : (status reads : ℕ) (held : List ℕ) → is_known status ≡ true → is_legal final ≡ true → IsAtRest new.events → HasRead mid.gave now.gave 0 reads
+    made : (status place reads : ℕ) (held : List ℕ) → is_known status ≡ true → is_legal final ≡ true → IsAtRest new.events → HasRead mid.gave now.gave 0 reads
         → (ht → (path : List ℕ) → now.puts path ≡ mid.puts path) → (st → was.unread ≡ flat_map frame (arrivals new.events) ++ (held ++ now.unread))
         → ((status ≡ 5 → ⊥) → IsStopped st was.unread final now.unread reads status) → (kt → IsWritten was.holds now.holds (greeting ++ sent final) (is_whole status))
         → (status ≡ 4 → Rose was.sink_faults now.sink_faults) → (status ≡ 3 → Rose was.source_faults now.source_faults) → (status ≡ 2 → st → IsCutAt was.unread final)
         → (status ≡ 0 → st → was.unread ≡ flat_map frame (arrivals final)) → (status ≡ 0 → list_any is_refused final ≡ false) → (status ≡ 6 → reads ≡ budget)
-        → ((status ≡ 0) ⊎ (status ≡ 3) → reads < budget) → IsSession ht kt st was now status final
-    made status reads held known legal rest r puts read stopped sends write_fault read_fault malformed whole_input unrefused spent unspent = record {
+        → ((status ≡ 0) ⊎ (status ≡ 3) → reads < budget)
+        → (status ≡ 2 → place ≡ arrived_bytes new.events) → ((status ≡ 2 → ⊥) → place ≡ 0) → IsSession ht kt st was now status place final
+    made status place reads held known legal rest r puts read stopped sends write_fault read_fault malformed whole_input unrefused spent unspent placed unplaced = record {
+      placed = λ two. placed two ∙ ap (λ (ps : List Packet). length (flat_map frame ps)) (sym (arrivals-end new.events final is));
+      unplaced = unplaced;
       known = known;
       reads = reads;
       legal = legal;
@@ -238,55 +252,56 @@ module _ (ht kt st : Type 0) (was mid : Outside) (old : Entries) (fresh : old.ev
     by_ending : (ending : Ending) (refused : Bool) (held : List ℕ) (reads : ℕ) → refused ≡ list_any is_refused final → is_legal final ≡ true → IsAtRest new.events
         → HasRead mid.gave now.gave 0 reads → (ht → (path : List ℕ) → now.puts path ≡ mid.puts path) → (kt → IsWritten was.holds now.holds (greeting ++ sent new.events) true)
         → (st → was.unread ≡ flat_map frame (arrivals new.events) ++ (held ++ now.unread)) → EndsBy st (Rose mid.source_faults now.source_faults) (held ++ now.unread) held reads ending
-        → IsSession ht kt st was now (status_by ending refused) final
-    by_ending endings.ReadFault refused held reads flag legal rest r puts w read e =
-        made 3 reads held refl legal rest r puts read
+        → IsAt (arrived_bytes new.events) ending → IsSession ht kt st was now (status_by ending refused) (place_if true ending) final
+    by_ending endings.ReadFault refused held reads flag legal rest r puts w read e at =
+        made 3 0 reads held refl legal rest r puts read
         (λ five. record { held = held; stop = stops.ReadFault; parts = final_read (held ++ now.unread) read; judged = e.1; by = λ four. refl })
-        (λ t. final_sent true (w t)) (λ x. absurd cc) (λ x. rose_source e.0) (λ x. absurd cc) (λ x. absurd cc) (λ x. absurd cc) (λ x. absurd cc) (λ x. e.1.1)
-    by_ending endings.Malformed refused held reads flag legal rest r puts w read e =
-        made 2 reads held refl legal rest r puts read
+        (λ t. final_sent true (w t)) (λ x. absurd cc) (λ x. rose_source e.0) (λ x. absurd cc) (λ x. absurd cc) (λ x. absurd cc) (λ x. absurd cc) (λ x. e.1.1) (λ x. absurd cc) (λ x. refl)
+    by_ending (endings.Malformed place) refused held reads flag legal rest r puts w read e at =
+        made 2 place reads held refl legal rest r puts read
         (λ five. record { held = held; stop = stops.Malformed; parts = final_read (held ++ now.unread) read; judged = e.1; by = λ four. refl })
         (λ t. final_sent true (w t)) (λ x. absurd cc) (λ x. absurd cc) (λ x. cut (held ++ now.unread) read e.0) (λ x. absurd cc) (λ x. absurd cc) (λ x. absurd cc)
-        (λ x. neither x (λ y. absurd cc) (λ y. absurd cc))
-    by_ending endings.Budget refused held reads flag legal rest r puts w read e =
-        made 6 reads held refl legal rest r puts read
+        (λ x. neither x (λ y. absurd cc) (λ y. absurd cc)) (λ x. at) (λ x. absurd (x refl))
+    by_ending endings.Budget refused held reads flag legal rest r puts w read e at =
+        made 6 0 reads held refl legal rest r puts read
         (λ five. record { held = held; stop = stops.Budget; parts = final_read (held ++ now.unread) read; judged = e.1; by = λ four. refl })
         (λ t. final_sent true (w t)) (λ x. absurd cc) (λ x. absurd cc) (λ x. absurd cc) (λ x. absurd cc) (λ x. absurd cc) (λ x. e.0.0)
-        (λ x. neither x (λ y. absurd cc) (λ y. absurd cc))
-    by_ending endings.Done true held reads flag legal rest r puts w read e =
-        made 5 reads held refl legal rest r puts read (λ five. absurd (five refl))
+        (λ x. neither x (λ y. absurd cc) (λ y. absurd cc)) (λ x. absurd cc) (λ x. refl)
+    by_ending endings.Done true held reads flag legal rest r puts w read e at =
+        made 5 0 reads held refl legal rest r puts read (λ five. absurd (five refl))
         (λ t. wrote-part was.holds now.holds (greeting ++ sent final) true (final_sent true (w t))) (λ x. absurd cc) (λ x. absurd cc) (λ x. absurd cc) (λ x. absurd cc) (λ x. absurd cc)
-        (λ x. absurd cc) (λ x. neither x (λ y. absurd cc) (λ y. absurd cc))
-    by_ending endings.Done false held reads flag legal rest r puts w read e =
-        made 0 reads held refl legal rest r puts read
+        (λ x. absurd cc) (λ x. neither x (λ y. absurd cc) (λ y. absurd cc)) (λ x. absurd cc) (λ x. refl)
+    by_ending endings.Done false held reads flag legal rest r puts w read e at =
+        made 0 0 reads held refl legal rest r puts read
         (λ five. record { held = held; stop = stops.End; parts = final_read (held ++ now.unread) read; judged = e.1; by = λ four. refl })
-        (λ t. final_sent true (w t)) (λ x. absurd cc) (λ x. absurd cc) (λ x. absurd cc) (λ x. all_read (held ++ now.unread) read e.0) (λ x. sym flag) (λ x. absurd cc) (λ x. e.1.1)
+        (λ t. final_sent true (w t)) (λ x. absurd cc) (λ x. absurd cc) (λ x. absurd cc) (λ x. all_read (held ++ now.unread) read e.0) (λ x. sym flag) (λ x. absurd cc) (λ x. e.1.1) (λ x. absurd cc) (λ x. refl)
 
     if_whole : (whole : Bool) (ending : Ending) (refused : Bool) (held : List ℕ) (reads : ℕ) → refused ≡ list_any is_refused final → is_legal final ≡ true → IsAtRest new.events
         → HasRead mid.gave now.gave 0 reads → (ht → (path : List ℕ) → now.puts path ≡ mid.puts path) → FailedSince was.sink_faults now.sink_faults whole
         → (kt → IsWritten was.holds now.holds (greeting ++ sent new.events) whole) → (st → was.unread ≡ flat_map frame (arrivals new.events) ++ (held ++ now.unread))
-        → EndsBy st (Rose mid.source_faults now.source_faults) (held ++ now.unread) held reads ending → IsSession ht kt st was now (status_if whole ending refused) final
-    if_whole false ending refused held reads flag legal rest r puts fell w read e =
-        made 4 reads held refl legal rest r puts read
+        → EndsBy st (Rose mid.source_faults now.source_faults) (held ++ now.unread) held reads ending → IsAt (arrived_bytes new.events) ending
+        → IsSession ht kt st was now (status_if whole ending refused) (place_if whole ending) final
+    if_whole false ending refused held reads flag legal rest r puts fell w read e at =
+        made 4 0 reads held refl legal rest r puts read
         (λ five. record { held = held; stop = stop_of ending; parts = final_read (held ++ now.unread) read; judged = e.1; by = λ four. absurd (four refl) })
         (λ t. final_sent false (w t)) (λ x. fell refl) (λ x. absurd cc) (λ x. absurd cc) (λ x. absurd cc) (λ x. absurd cc) (λ x. absurd cc)
-        (λ x. neither x (λ y. absurd cc) (λ y. absurd cc))
-    if_whole true ending refused held reads flag legal rest r puts fell w read e = by_ending ending refused held reads flag legal rest r puts w read e
+        (λ x. neither x (λ y. absurd cc) (λ y. absurd cc)) (λ x. absurd cc) (λ x. unplaced-by ending)
+    if_whole true ending refused held reads flag legal rest r puts fell w read e at = by_ending ending refused held reads flag legal rest r puts w read e at
 
     pub session-ok : (ending : Ending) (refused : Bool) → refused ≡ list_any is_refused final → is_legal final ≡ true → Ends ht kt st mid now old new ending
-        → IsSession ht kt st was now (status_if now.whole ending refused) final
+        → IsSession ht kt st was now (status_if now.whole ending refused) (place_if now.whole ending) final
     session-ok ending refused flag legal e =
         if_whole now.whole ending refused e.held e.reads flag legal e.rests e.read e.serving.puts (e.serving.failed was.sink_faults falls failed) (e.serving.wrote was.holds greeting start_wrote)
-        (e.serving.stream was.unread start_read) e.ends
+        (e.serving.stream was.unread start_read) e.ends e.at
 
   pub session-any : (new : Entries) (final : List Event) (now : Outside) (result : Result Ending Memory) (refused : Bool) → refused ≡ list_any is_refused final → final ≡ new.events ++ events.EndOfInput ∷ [] → is_legal final ≡ true
-      → IfOk result (λ ending. Ends ht kt st mid now old new ending) → OnErr result (Refused ht kt st mid now old new) → IsSession ht kt st was (record now { whole = true }) (status_of result now.whole refused) final
-  session-any new final now (Ok ending) refused flag is legal ok err = any-whole ht kt st was now _ final (session-ok new final now is ok.serving.goes ending refused flag legal ok)
-  session-any new final now (Err refusal) refused flag is legal ok err = any-whole ht kt st was now _ final (session-refused new final now is err.goes legal err)
+      → IfOk result (λ ending. Ends ht kt st mid now old new ending) → OnErr result (Refused ht kt st mid now old new) → IsSession ht kt st was (record now { whole = true }) (status_of result now.whole refused) (place_of result now.whole) final
+  session-any new final now (Ok ending) refused flag is legal ok err = any-whole ht kt st was now _ _ final (session-ok new final now is ok.serving.goes ending refused flag legal ok)
+  session-any new final now (Err refusal) refused flag is legal ok err = any-whole ht kt st was now _ _ final (session-refused new final now is err.goes legal err)
 
 -- a session that never began, for want of memory
-pub session-none : (ht kt st : Type 0) (was : Outside) (journal : List Event) → journal ≡ [] → IsSession ht kt st was was 5 journal
-session-none ht kt st was journal none = subst (λ (es : List Event). IsSession ht kt st was was 5 es) (sym none) (record {
+pub session-none : (ht kt st : Type 0) (was : Outside) (journal : List Event) → journal ≡ [] → IsSession ht kt st was was 5 0 journal
+session-none ht kt st was journal none = subst (λ (es : List Event). IsSession ht kt st was was 5 0 es) (sym none) (record {
   known = refl;
   legal = refl;
   ended = λ not_five. absurd (not_five refl);
@@ -305,6 +320,8 @@ session-none ht kt st was journal none = subst (λ (es : List Event). IsSession 
   stream = λ t. record { rest = was.unread; parts = refl };
   stopped = λ not_five. absurd (not_five refl);
   malformed = λ e. absurd cc;
+  placed = λ e. absurd cc;
+  unplaced = λ e. refl;
   whole_input = λ e. absurd cc;
   reads = 0;
   read = λ few. omega arith;

@@ -178,6 +178,6 @@ rose-earlier was mid now le (inr most) = inr most
 -- a cause since a later moment is one since an earlier
 pub ends-earlier : (tells : Type 0) (was mid now : ℕ) (unread held : List ℕ) (reads : ℕ) (ending : Ending) → was ≤ mid → EndsBy tells (Rose mid now) unread held reads ending → EndsBy tells (Rose was now) unread held reads ending
 ends-earlier tells was mid now unread held reads endings.Done le h = h
-ends-earlier tells was mid now unread held reads endings.Malformed le h = h
+ends-earlier tells was mid now unread held reads (endings.Malformed place) le h = h
 ends-earlier tells was mid now unread held reads endings.ReadFault le h = (rose-earlier was mid now le h.0, h.1)
 ends-earlier tells was mid now unread held reads endings.Budget le h = h

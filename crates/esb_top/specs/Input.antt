@@ -1,5 +1,5 @@
 -- What was read of a source.
-use Rattle.std.specs.Prelude.{◌≡◌, ◌⊎◌, ℕ, ◌≤◌, List, [], ◌∷◌, ◌++◌}
+use Rattle.std.specs.Prelude.{◌≡◌, ◌⊎◌, ℕ, ◌≤◌, length, List, [], ◌∷◌, ◌++◌}
 use Rattle.std.specs.List.{flat_map}
 use Rattle.esb_wire.specs.declared.value.Packet.{Packet}
 use Rattle.esb_wire.specs.Spelling.{frame}
@@ -29,13 +29,24 @@ pub record Begins (whole front : List ℕ) : Type 0 where
 -- why a reader stopped, by the ending of a session
 abbrev pub stop_of : Ending → Stop
 stop_of endings.Done = stops.End
-stop_of endings.Malformed = stops.Malformed
+stop_of (endings.Malformed place) = stops.Malformed
 stop_of endings.ReadFault = stops.ReadFault
 stop_of endings.Budget = stops.Budget
 
 -- why no packet is read any more: the input ended behind a packet, no packet stands there, a read failed, or 2^40 reads gave a byte
 abbrev pub EndsBy : Type 0 → Type 0 → List ℕ → List ℕ → ℕ → Ending → Type 0
 EndsBy tells rose unread held reads ending = StopsBy tells rose unread held reads (stop_of ending) × JudgedBy held reads (stop_of ending)
+
+-- malformed input is told with its place
+abbrev pub IsAt : ℕ → Ending → Type 0
+IsAt at (endings.Malformed place) = place ≡ at
+IsAt at endings.Done = Unit {0}
+IsAt at endings.ReadFault = Unit {0}
+IsAt at endings.Budget = Unit {0}
+
+-- the number of bytes of the packets that arrived
+abbrev pub arrived_bytes : List Event → ℕ
+arrived_bytes list = length (flat_map frame (arrivals list))
 
 -- the status of a session in which no write failed and no memory was refused
 abbrev pub status_at : Stop → ℕ

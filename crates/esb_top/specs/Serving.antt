@@ -7,7 +7,7 @@ use Rattle.esb_base.specs.World.{Folder}
 use Rattle.esb_sound.specs.Sent.{arrivals, sent}
 use Rattle.esb_top.specs.declared.session.Ending.{Ending}
 use Rattle.esb_top.specs.Entries.{Entries}
-use Rattle.esb_top.specs.Input.{Begins, EndsBy, HasRead, IsRead}
+use Rattle.esb_top.specs.Input.{Begins, EndsBy, HasRead, IsAt, IsRead, arrived_bytes}
 use Rattle.esb_top.specs.Output.{FailedSince, Wrote}
 use Rattle.esb_top.specs.Turn.{IsAtRest}
 use Rattle.esb_top.specs.Work.{Goes}
@@ -58,3 +58,4 @@ pub record Ends (host_tells sink_tells source_tells : Type 0) (was now : Outside
   pub ends : EndsBy source_tells (Rose was.source_faults now.source_faults) (held ++ now.unread) held reads ending
   pub read : HasRead was.gave now.gave 0 reads
   pub rests : IsAtRest new.events
+  pub at : IsAt (arrived_bytes new.events) ending

@@ -22,7 +22,7 @@ use Rattle.esb_top.specs.Words.{greeting}
 
 abbrev pub status_by : Ending → Bool → ℕ
 status_by endings.ReadFault refused = 3
-status_by endings.Malformed refused = 2
+status_by (endings.Malformed place) refused = 2
 status_by endings.Budget refused = 6
 status_by endings.Done true = 5
 status_by endings.Done false = 0
@@ -35,6 +35,15 @@ status_if true ending refused = status_by ending refused
 abbrev pub status_of : Result Ending Memory → Bool → Bool → ℕ
 status_of (Err refusal) whole refused = 5
 status_of (Ok ending) whole refused = status_if whole ending refused
+
+abbrev pub place_if : Bool → Ending → ℕ
+place_if true (endings.Malformed place) = place
+place_if whole ending = 0
+
+-- where malformed input begins, in a session that ends by that
+abbrev pub place_of : Result Ending Memory → Bool → ℕ
+place_of (Err refusal) whole = 0
+place_of (Ok ending) whole = place_if whole ending
 
 -- the statuses of a session
 abbrev pub is_known : ℕ → Bool
@@ -56,7 +65,7 @@ abbrev pub HasEnded : List Event → Type 0
 HasEnded journal = (before : List Event) × (journal ≡ before ++ events.EndOfInput ∷ [])
 
 -- A session: the journal is one legal and right history, its answers are the host's own, the sink holds what the journal sent, and each status has its cause.
-pub record IsSession (host_tells sink_tells source_tells : Type 0) (was now : Outside) (status : ℕ) (journal : List Event) : Type 0 where
+pub record IsSession (host_tells sink_tells source_tells : Type 0) (was now : Outside) (status place : ℕ) (journal : List Event) : Type 0 where
   pub known : is_known status ≡ true
   -- how many reads gave a byte
   pub reads : ℕ
@@ -82,6 +91,9 @@ pub record IsSession (host_tells sink_tells source_tells : Type 0) (was now : Ou
   pub stream : source_tells → Begins was.unread (flat_map frame (arrivals journal))
   pub stopped : (status ≡ 5 → ⊥) → IsStopped source_tells was.unread journal now.unread reads status
   pub malformed : status ≡ 2 → source_tells → IsCutAt was.unread journal
+  -- where malformed input begins
+  pub placed : status ≡ 2 → place ≡ length (flat_map frame (arrivals journal))
+  pub unplaced : (status ≡ 2 → ⊥) → place ≡ 0
   pub whole_input : status ≡ 0 → source_tells → was.unread ≡ flat_map frame (arrivals journal)
   -- 2^40 of them where the budget was spent, and fewer where the input ended or a read failed
   pub read : Counts was.gave now.gave 0 reads

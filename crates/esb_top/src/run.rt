@@ -2,7 +2,7 @@
 ghost use Rattle.std.specs.Prelude.{◌≡◌, ℕ, ◌<◌, [], None, Some, true};
 ghost use Rattle.esb_top.specs.Words.{bad_place, bad_word_line};
 ghost use Rattle.esb_top.specs.Output.{IsPut};
-ghost use Rattle.esb_top.specs.Session.{IsSession, status_of};
+ghost use Rattle.esb_top.specs.Session.{IsSession, place_of, status_of};
 
 use crate::history::History;
 use crate::output::put;
@@ -21,7 +21,7 @@ pub struct Session {
     /// 0 where the input ended behind a packet and all that was owed was written; 1 for a bad word, 2 for malformed input, 3 for
     /// a failed read, 4 for a failed write, 5 for want of memory, 6 where too many reads were made.
     pub status: u8,
-    /// Where the input is malformed. It is 0 so far.
+    /// Where malformed input begins: the number of the bytes of the packets before. It is 0 at any other status than 2.
     pub place: u64,
     /// The events of the session, in order.
     pub journal: Journal,
@@ -29,13 +29,14 @@ pub struct Session {
     pub parses: List<u64>,
 }
 
-fn end_with(alloc: Global, status: u8, journal: Journal) -> Session
+fn end_with(alloc: Global, status: u8, place: u64, journal: Journal) -> Session
     ensures status { result.status ≡ status }
+    ensures place { result.place ≡ place }
     ensures journal { result.journal ≡ journal }
 {
     Session {
         status,
-        place: 0,
+        place,
         journal,
         parses: List::new(alloc),
     }
@@ -60,11 +61,20 @@ fn status_of(ending: Result<Ending, Memory>, whole: bool, refused: bool) -> u8
             }
             match ending {
                 Ending::ReadFault => 3,
-                Ending::Malformed => 2,
+                Ending::Malformed(_) => 2,
                 Ending::Budget => 6,
                 Ending::Done => { if refused { 5 } else { 0 } }
             }
         }
+    }
+}
+
+fn place_of(ending: Result<Ending, Memory>, whole: bool) -> u64
+    ensures { result ≡ place_of ending whole }
+{
+    match ending {
+        Ok(Ending::Malformed(place)) if whole => place,
+        _ => 0,
     }
 }
 
@@ -98,17 +108,18 @@ fn converse<S: Source, K: Sink, H: Host>(
     ensures { IsSession H.tells K.tells S.tells
         (record { world = H.world host.old; host_faults = H.faults host.old; puts = H.put_at host.old; holds = K.holds sink.old; sink_faults = K.faults sink.old; whole = true; unread = S.left source.old; source_faults = S.faults source.old; gave = S.gave source.old })
         (record { world = H.world host.new; host_faults = H.faults host.new; puts = H.put_at host.new; holds = K.holds sink.new; sink_faults = K.faults sink.new; whole = true; unread = S.left source.new; source_faults = S.faults source.new; gave = S.gave source.new })
-        result.status result.journal.events }
+        result.status result.place result.journal.events }
 {
     let Ok(mut history) = History::new(alloc) else {
-        return end_with(alloc, 5, no_events(alloc));
+        return end_with(alloc, 5, 0, no_events(alloc));
     };
     let mut whole = put(sink, &GREETING, true);
     let ending = serve(alloc, &mut history, source, sink, host, &mut whole);
     history.end_of_input();
     history.is_legal();
     let status = status_of(ending, whole, history.has_refusal());
-    end_with(alloc, status, history.into_journal())
+    let place = place_of(ending, whole);
+    end_with(alloc, status, place, history.into_journal())
 }
 
 /// Runs the words: `service --serial` serves a client on one thread.
@@ -122,19 +133,20 @@ pub fn run_serial<S: Source, K: Sink, H: Host>(
     host: &mut H,
 ) -> Session
     ensures bad_status { (place : ℕ) → bad_place words.now ≡ Some place → result.status ≡ 1 }
+    ensures bad_place { (place : ℕ) → bad_place words.now ≡ Some place → result.place ≡ 0 }
     ensures bad_journal { (place : ℕ) → bad_place words.now ≡ Some place → result.journal.events ≡ [] }
     ensures bad_line { (place : ℕ) → bad_place words.now ≡ Some place → IsPut K.tells (K.holds sink.old) (K.holds sink.new) (K.faults sink.old) (K.faults sink.new) (bad_word_line place) }
     ensures bad_rest { (place : ℕ) → bad_place words.now ≡ Some place → (source.new ≡ source.old) × (host.new ≡ host.old) }
     ensures session { bad_place words.now ≡ None → IsSession H.tells K.tells S.tells
         (record { world = H.world host.old; host_faults = H.faults host.old; puts = H.put_at host.old; holds = K.holds sink.old; sink_faults = K.faults sink.old; whole = true; unread = S.left source.old; source_faults = S.faults source.old; gave = S.gave source.old })
         (record { world = H.world host.new; host_faults = H.faults host.new; puts = H.put_at host.new; holds = K.holds sink.new; sink_faults = K.faults sink.new; whole = true; unread = S.left source.new; source_faults = S.faults source.new; gave = S.gave source.new })
-        result.status result.journal.events }
+        result.status result.place result.journal.events }
 {
     match read_words(words) {
         Ok(Words) => converse(alloc, source, sink, host),
         Err(BadWord { place }) => {
             put_line(sink, place);
-            end_with(alloc, 1, no_events(alloc))
+            end_with(alloc, 1, 0, no_events(alloc))
         }
     }
 }

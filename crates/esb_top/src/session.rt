@@ -7,7 +7,7 @@ ghost use Rattle.esb_core.specs.History.{replay};
 ghost use Rattle.esb_sound.specs.Sound.{Sound};
 ghost use Rattle.esb_sound.specs.Sent.{arrivals, sent};
 ghost use Rattle.esb_top.specs.Output.{FailedSince, PopsOne, Wrote};
-ghost use Rattle.esb_top.specs.Input.{ArrivesOne, EndsBy, HasRead, IsRead};
+ghost use Rattle.esb_top.specs.Input.{ArrivesOne, EndsBy, HasRead, IsAt, IsRead, arrived_bytes};
 ghost use Rattle.esb_top.specs.Serving.{Ends, Refused};
 ghost use Rattle.esb_top.specs.Turn.{IsAtRest, IsFree, TurnsOne};
 ghost use Rattle.esb_top.specs.Work.{Goes, Worked};
@@ -73,7 +73,8 @@ fn work_first<H: Host>(alloc: Global, history: &mut History, host: &mut H) -> Re
 #[derive(Clone, Copy, Debug, PartialEq, Eq)]
 pub(crate) enum Ending {
     Done,
-    Malformed,
+    /// The number of the bytes before.
+    Malformed(u64),
     ReadFault,
     Budget,
 }
@@ -98,6 +99,8 @@ fn read_next<S: Source>(
     ensures free { IsFree history.new.events }
     ensures rests { IfOk result (λ ending. IfSome ending (λ e. IsAtRest history.new.events)) }
     ensures read { HasRead (S.gave source.old) (S.gave source.new) reader.old.reads reader.new.reads }
+    ensures placed { IfOk result (λ ending. reader.old.place ≡ arrived_bytes history.old.events → reader.new.place ≡ arrived_bytes history.new.events) }
+    ensures at { IfOk result (λ ending. IfSome ending (IsAt reader.new.place)) }
     ensures ends { IfOk result (λ ending. IfSome ending (λ e. EndsBy S.tells (Rose (S.faults source.old) (S.faults source.new)) (reader.new.held ++ S.left source.new) reader.new.held reader.new.reads e)) }
 {
     history.is_legal();
@@ -107,7 +110,7 @@ fn read_next<S: Source>(
             Ok(None)
         }
         Next::End => Ok(Some(Ending::Done)),
-        Next::Malformed(_) => Ok(Some(Ending::Malformed)),
+        Next::Malformed(place) => Ok(Some(Ending::Malformed(place))),
         Next::ReadFault => Ok(Some(Ending::ReadFault)),
         Next::Budget => Ok(Some(Ending::Budget)),
         Next::Memory => Err(Memory),
@@ -144,6 +147,8 @@ fn turn<S: Source, K: Sink, H: Host>(
     ensures free { IsFree history.new.events }
     ensures rests { IfOk result (λ ending. IfSome ending (λ e. IsAtRest history.new.events)) }
     ensures read { HasRead (S.gave source.old) (S.gave source.new) reader.old.reads reader.new.reads }
+    ensures placed { IfOk result (λ ending. reader.old.place ≡ arrived_bytes history.old.events → reader.new.place ≡ arrived_bytes history.new.events) }
+    ensures at { IfOk result (λ ending. IfSome ending (IsAt reader.new.place)) }
     ensures arrived { OnErr result (arrivals history.new.events ≡ arrivals history.old.events) }
     ensures stream { IfOk result (λ ending. (all : Listed ℕ) → IsRead S.tells all history.old.events (reader.old.held ++ S.left source.old)
         → IsRead S.tells all history.new.events (reader.new.held ++ S.left source.new)) }
@@ -170,6 +175,7 @@ pub(crate) fn serve<S: Source, K: Sink, H: Host>(
     requires unended { (replay history.old.events).ended ≡ false }
     requires sound { Sound history.old.events }
     requires free { IsFree history.old.events }
+    requires fresh { arrived_bytes history.old.events ≡ 0 }
     ensures ok { IfOk result (λ ending. Ends H.tells K.tells S.tells
         (record { world = H.world host.old; host_faults = H.faults host.old; puts = H.put_at host.old; holds = K.holds sink.old; sink_faults = K.faults sink.old; whole = whole.old; unread = S.left source.old; source_faults = S.faults source.old; gave = S.gave source.old })
         (record { world = H.world host.new; host_faults = H.faults host.new; puts = H.put_at host.new; holds = K.holds sink.new; sink_faults = K.faults sink.new; whole = whole.new; unread = S.left source.new; source_faults = S.faults source.new; gave = S.gave source.new })

@@ -46,7 +46,7 @@ fn joined(alloc: Global, parts: &[&[u8]]) -> Result<List<u8>, Fail> {
     Ok(bytes)
 }
 
-/// How a session on these words and frames ended, and what it sent. A read gives at most `most` bytes, and the listed reads
+/// How a session on these words and frames ended, its place, and what it sent. A read gives at most `most` bytes, and the listed reads
 /// and writes fail.
 fn served(
     alloc: Global,
@@ -55,7 +55,7 @@ fn served(
     most: usize,
     failing_reads: &[u64],
     failing_writes: &[u64],
-) -> Result<(u8, List<u8>), Fail>
+) -> Result<(u8, u64, List<u8>), Fail>
     requires { 1 ≤ most }
 {
     let mut texts = Vec::new(alloc);
@@ -68,36 +68,37 @@ fn served(
     let mut sink = MemSink::new(alloc, 100_000, List::of(alloc, failing_writes)?)?;
     let mut host = MemHost::new(alloc, world(alloc)?, List::new(alloc));
     let session = run_serial(alloc, texts.as_slice(), &mut source, &mut sink, &mut host);
-    Ok((session.status, List::of(alloc, sink.as_slice())?))
+    let sent = List::of(alloc, sink.as_slice())?;
+    Ok((session.status, session.place, sent))
 }
 
-/// Whether the service ends so and sends these, where a read gives at most `most` bytes.
+/// Whether the service ends so, with this place, and sends these, where a read gives at most `most` bytes.
 fn serves_by(
     alloc: Global,
     input: &[&[u8]],
     most: usize,
-    status: u8,
+    end: (u8, u64),
     output: &[&[u8]],
 ) -> Result<bool, Fail>
     requires { 1 ≤ most }
 {
-    let (ended, sent) = served(alloc, &["service", "--serial"], input, most, &[], &[])?;
+    let (status, place, sent) = served(alloc, &["service", "--serial"], input, most, &[], &[])?;
     let output = joined(alloc, output)?;
-    Ok(ended == status && sent.as_slice() == output.as_slice())
+    Ok((status, place) == end && sent.as_slice() == output.as_slice())
 }
 
-/// Whether the service ends so and sends these, however the reads are cut.
-fn serves(alloc: Global, input: &[&[u8]], status: u8, output: &[&[u8]]) -> Result<bool, Fail> {
+/// Whether the service ends so, with this place, and sends these, however the reads are cut.
+fn serves(alloc: Global, input: &[&[u8]], end: (u8, u64), output: &[&[u8]]) -> Result<bool, Fail> {
     Ok(
-        serves_by(alloc, input, 1, status, output)?
-            && serves_by(alloc, input, 7, status, output)?
-            && serves_by(alloc, input, 65_536, status, output)?,
+        serves_by(alloc, input, 1, end, output)?
+            && serves_by(alloc, input, 7, end, output)?
+            && serves_by(alloc, input, 65_536, end, output)?,
     )
 }
 
 #[test]
 fn empty_input(rt: HostRuntime) -> Result<(), Fail> {
-    assert!(rt; serves(rt.alloc(), &[], 0, &[GREETING])?);
+    assert!(rt; serves(rt.alloc(), &[], (0, 0), &[GREETING])?);
     Ok(())
 }
 
@@ -107,7 +108,7 @@ fn requests_in_order(rt: HostRuntime) -> Result<(), Fail> {
         serves(
             rt.alloc(),
             &[FROB, BUILD, MISSING],
-            0,
+            (0, 0),
             &[GREETING, FROB_REPLY, BUILD_REPLY, MISSING_REPLY],
         )?
     );
@@ -127,7 +128,8 @@ fn malformed_input(rt: HostRuntime) -> Result<(), Fail> {
         b"\x06\0\0\0\0\0\0\0\0\0",
     ];
     for frame in frames {
-        assert!(rt; serves(rt.alloc(), &[FROB, frame], 2, &[GREETING, FROB_REPLY])?);
+        assert!(rt; serves(rt.alloc(), &[frame], (2, 0), &[GREETING])?);
+        assert!(rt; serves(rt.alloc(), &[FROB, frame], (2, 33), &[GREETING, FROB_REPLY])?);
     }
     Ok(())
 }
@@ -136,10 +138,10 @@ fn malformed_input(rt: HostRuntime) -> Result<(), Fail> {
 fn faults(rt: HostRuntime) -> Result<(), Fail> {
     let alloc = rt.alloc();
     let words = ["service", "--serial"];
-    let (status, sent) = served(alloc, &words, &[FROB], 65_536, &[1], &[])?;
+    let (status, _, sent) = served(alloc, &words, &[FROB], 65_536, &[1], &[])?;
     let replied = joined(alloc, &[GREETING, FROB_REPLY])?;
     assert!(rt; status == 3 && sent.as_slice() == replied.as_slice());
-    let (status, sent) = served(alloc, &words, &[FROB, FROB], 65_536, &[], &[1])?;
+    let (status, _, sent) = served(alloc, &words, &[FROB, FROB], 65_536, &[], &[1])?;
     assert!(rt; status == 4 && sent.as_slice() == GREETING);
     Ok(())
 }
@@ -147,7 +149,7 @@ fn faults(rt: HostRuntime) -> Result<(), Fail> {
 #[test]
 fn bad_words(rt: HostRuntime) -> Result<(), Fail> {
     let alloc = rt.alloc();
-    let (status, sent) = served(alloc, &["service", "-serial"], &[FROB], 9, &[], &[])?;
+    let (status, _, sent) = served(alloc, &["service", "-serial"], &[FROB], 9, &[], &[])?;
     assert!(rt; status == 1 && sent.as_slice() == b"esb: bad word 1\n".as_slice());
     Ok(())
 }

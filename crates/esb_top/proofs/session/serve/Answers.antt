@@ -1,4 +1,5 @@
-use Rattle.std.proofs.Common.{◌++◌}
+use Rattle.esb_top.specs.Input.{IsAt}
+use Rattle.std.proofs.Common.{ℕ, subst, ◌++◌}
 use Rattle.esb_top.specs.Serving.{Outside, Serving}
 use Rattle.esb_top.proofs.Outputs.{on_err, wrote-part}
 use Rattle.esb_top.proofs.Turns.{RefusedNow, ends-earlier, read-trans, refused-trans, serving-trans}
@@ -43,6 +44,7 @@ returns-in-Some-clause-ok g c =
       serving = serving-trans g.H.Host.tells g.K.Sink.tells g.S.Source.tells was mid now c.args.history.now c.loop.history c.turn.new.history c.loop.invariant.0 last;
       read = read-trans _ _ _ 0 c.loop.reader.reads c.turn.new.reader.reads c.loop.invariant.3 c.turn.ensures.read;
       rests = rw c.in-Some.is at c.in_ok-ended.ensures.rests;
+      at = subst (λ (k : ℕ). IsAt k c.in-Some.ending) (c.in_ok-ended.ensures.placed c.loop.invariant.4) (rw c.in-Some.is at c.in_ok-ended.ensures.at);
       ends = ends-earlier g.S.Source.tells _ _ _ _ _ _ c.in-Some.ending c.loop.invariant.0.source_falls (rw c.in-Some.is at c.in_ok-ended.ensures.ends);
     }
 
@@ -62,7 +64,7 @@ loop-preserved g c =
       source_falls = c.turn.ensures.source_never_falls;
       stream = c.in_ok-ended.ensures.stream;
     } in
-    (serving-trans g.H.Host.tells g.K.Sink.tells g.S.Source.tells was mid now c.args.history.now c.loop.history c.turn.new.history c.loop.invariant.0 last, c.in_ok-ended.ensures.going c.in_default.is, c.turn.ensures.free, read-trans _ _ _ 0 c.loop.reader.reads c.turn.new.reader.reads c.loop.invariant.3 c.turn.ensures.read)
+    (serving-trans g.H.Host.tells g.K.Sink.tells g.S.Source.tells was mid now c.args.history.now c.loop.history c.turn.new.history c.loop.invariant.0 last, c.in_ok-ended.ensures.going c.in_default.is, c.turn.ensures.free, read-trans _ _ _ 0 c.loop.reader.reads c.turn.new.reader.reads c.loop.invariant.3 c.turn.ensures.read, c.in_ok-ended.ensures.placed c.loop.invariant.4)
 
 pub returns-clause-err : goal.returns-clause-err
 returns-clause-err g c =

@@ -1,4 +1,4 @@
-use Rattle.std.proofs.Common.{◌++◌, ℕ, List, sym, ap, subst, ◌∙◌}
+use Rattle.std.proofs.Common.{length, ◌++◌, ℕ, List, sym, ap, subst, ◌∙◌}
 use Rattle.std.specs.List.{flat_map}
 use Rattle.esb_wire.specs.Spelling.{frame}
 use Rattle.esb_sound.specs.Sent.{arrivals}
@@ -61,3 +61,18 @@ returns-clause-arrived g c =
     on_err-map c.read_next.result
     (λ part. ap (λ (es : List Event). arrivals es) part ∙ c.work_first.ensures.worked.arrived ∙ arrivals-pops c.args.history.now.events c.send_first.new.history.events c.send_first.ensures.pops)
     c.read_next.ensures.part
+
+pub returns-clause-placed : goal.returns-clause-placed
+returns-clause-placed g c =
+    if_ok-map c.read_next.result _ _
+    (λ ending placed before.
+    placed (before ∙ ap (λ (ps : List _). length (flat_map frame ps)) (sym (c.work_first.ensures.worked.arrived ∙ arrivals-pops c.args.history.now.events c.send_first.new.history.events c.send_first.ensures.pops))))
+    c.read_next.ensures.placed
+
+pub returns-then-branch-clause-placed : goal.returns-then-branch-clause-placed
+returns-then-branch-clause-placed g c = λ before.
+    before ∙ ap (λ (ps : List _). length (flat_map frame ps)) (sym (arrivals-pops c.args.history.now.events c.send_first.new.history.events c.send_first.ensures.pops))
+
+pub returns-then-branch-2-clause-placed : goal.returns-then-branch-2-clause-placed
+returns-then-branch-2-clause-placed g c = λ before.
+    before ∙ ap (λ (ps : List _). length (flat_map frame ps)) (sym (c.work_first.ensures.worked.arrived ∙ arrivals-pops c.args.history.now.events c.send_first.new.history.events c.send_first.ensures.pops))
