@@ -1,0 +1,3 @@
+pub mod Yields
+pub mod Levels
+pub mod Trees
