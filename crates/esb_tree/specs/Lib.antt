@@ -1,3 +1,4 @@
 pub mod Yields
 pub mod Levels
 pub mod Trees
+pub mod Fits
