@@ -15,7 +15,7 @@ use sqlite_items::Boxed;
 #[derive(Drop)]
 pub enum Expression {
     /// A PrimaryExpression of one token (12.2): `this`, a name, a literal, a regular expression or a template without
-    /// substitutions. As what a chain begins with also `super` (12.3.5, 12.3.7).
+    /// substitutions. As what a chain begins with also `super` (12.3.7).
     Primary(Token),
     /// MetaProperty (12.3): `new.target` and `import.meta`.
     MetaProperty(Token, Token, Token),

@@ -5,6 +5,7 @@ mod classes;
 mod expressions;
 mod functions;
 mod modules;
+mod operators;
 mod patterns;
 mod statements;
 
@@ -12,6 +13,7 @@ pub use classes::{Class, ClassElement, Heritage};
 pub use expressions::{Expression, Link, Operand, Substitution, Substitutions};
 pub use functions::{ConciseBody, Function, Method};
 pub use modules::{ImportClause, ModuleItem, NextSpecifier, Specifier, Specifiers, Tree};
+pub use operators::{is_assignment, is_unary, level_of};
 pub use patterns::{Bracketed, Element, Elements, NextElement, PropertyName};
 pub use statements::{
     Block, CaseClause, Declaration, Else, ElseIf, Finalizer, ForStart, Handler, IfClause,
