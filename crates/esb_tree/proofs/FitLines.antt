@@ -1,5 +1,5 @@
 -- Whether a node fits, by whether its children do.
-use Rattle.std.proofs.Common.{◌≡◌, ℕ, ◌+◌, ◌-◌, max, Bool, true, ◌&&◌, List, [], ◌∷◌, map, Option, inl, inr, refl, ap, sym, ◌∙◌, arith}
+use Rattle.std.proofs.Common.{◌≡◌, ℕ, ◌+◌, ◌-◌, max, true, ◌&&◌, List, [], ◌∷◌, map, Option, inl, inr, refl, ap, sym, ◌∙◌, arith}
 use Rattle.std.specs.Prelude.{nat_le, nat_lt}
 use Rattle.std.specs.List.{list_all}
 use Rattle.std.proofs.lemmas.Bool.{le-leb, lt-leb}
@@ -46,7 +46,7 @@ use Rattle.esb_tree.specs.declared.patterns.NextElement.{NextElement, out-NextEl
 use Rattle.esb_tree.specs.declared.expressions.Operand.{Operand, out-Operand}
 use Rattle.esb_tree.specs.declared.expressions.Substitution.{Substitution, out-Substitution}
 use Rattle.esb_tree.specs.declared.expressions.Substitutions.{Substitutions, out-Substitutions}
-use Rattle.esb_tree.specs.Levels.{most, depth_of_class_element, depth_of_heritage, depth_of_expression, depth_of_link, depth_of_concise_body, depth_of_element, depth_of_property_name, depth_of_case_clause, depth_of_else, depth_of_finalizer, depth_of_for_start, depth_of_handler, depth_of_maybe_expression, depth_of_statement, depth_of_class, depth_of_operand, depth_of_substitution, depth_of_substitutions, depth_of_function, depth_of_method, depth_of_bracketed, depth_of_elements, depth_of_next_element, depth_of_block, depth_of_declaration, depth_of_else_if, depth_of_if_clause}
+use Rattle.esb_tree.specs.Levels.{most, depth_of_class_element, depth_of_heritage, depth_of_expression, depth_of_link, depth_of_concise_body, depth_of_element, depth_of_property_name, depth_of_case_clause, depth_of_else, depth_of_finalizer, depth_of_for_start, depth_of_handler, depth_of_maybe_expression, depth_of_statement, depth_of_class, depth_of_operand, depth_of_substitution, depth_of_substitutions, depth_of_function, depth_of_bracketed, depth_of_next_element, depth_of_block, depth_of_declaration, depth_of_else_if, depth_of_if_clause}
 use Rattle.esb_tree.specs.Fits.{fits_class_element, fits_heritage, fits_expression, fits_link, fits_concise_body, fits_element, fits_property_name, fits_case_clause, fits_else, fits_finalizer, fits_for_start, fits_handler, fits_maybe_expression, fits_statement, fits_class, fits_operand, fits_substitution, fits_substitutions, fits_function, fits_method, fits_bracketed, fits_elements, fits_next_element, fits_block, fits_declaration, fits_else_if, fits_if_clause}
 use Rattle.esb_tree.proofs.LevelLines.{levels_is_ClassMethod, levels_is_EmptyElement, levels_is_NoHeritage, levels_is_Extends, levels_is_Primary, levels_is_MetaProperty, levels_is_ArrayLiteral, levels_is_ObjectLiteral, levels_is_Parenthesized, levels_is_TemplateLiteral, levels_is_FunctionExpression, levels_is_ClassExpression, levels_is_Member, levels_is_New, levels_is_NewPlain, levels_is_ImportCall, levels_is_PrefixUpdate, levels_is_PostfixUpdate, levels_is_Unary, levels_is_Await, levels_is_Binary, levels_is_Conditional, levels_is_Assignment, levels_is_Arrow, levels_is_AsyncArrow, levels_is_Yield, levels_is_YieldValue, levels_is_YieldEach, levels_is_Dot, levels_is_Index, levels_is_Call, levels_is_Tagged, levels_is_TaggedTemplate, levels_is_OptionalDot, levels_is_OptionalIndex, levels_is_OptionalCall, levels_is_ConciseValue, levels_is_ConciseBlock, levels_is_Hole, levels_is_Value, levels_is_Spread, levels_is_Shorthand, levels_is_Initialized, levels_is_Property, levels_is_MethodProperty, levels_is_Named, levels_is_Computed, levels_is_Case, levels_is_Default, levels_is_NoElse, levels_is_Otherwise, levels_is_NoFinalizer, levels_is_Finally, levels_is_NoStart, levels_is_StartExpression, levels_is_StartDeclaration, levels_is_NoHandler, levels_is_Catch, levels_is_CatchParameter, levels_is_Absent, levels_is_Present, levels_is_BlockStatement, levels_is_Variables, levels_is_Empty, levels_is_ExpressionStatement, levels_is_If, levels_is_DoWhile, levels_is_While, levels_is_For, levels_is_ForEach, levels_is_Continue, levels_is_Break, levels_is_Return, levels_is_Switch, levels_is_Labelled, levels_is_Throw, levels_is_Try, levels_is_Debugger, levels_is_FunctionDeclaration, levels_is_ClassDeclaration, levels_at_Class, levels_at_Operand, levels_at_Substitution, levels_at_Substitutions, levels_at_Function, levels_at_Method, levels_at_Bracketed, levels_at_Elements, levels_at_NextElement, levels_at_Block, levels_at_Declaration, levels_at_ElseIf, levels_at_IfClause}
 

@@ -1,5 +1,5 @@
 -- The depth of each kind of node.
-use Rattle.std.proofs.Common.{◌≡◌, ℕ, ◌+◌, max, List, [], ◌∷◌, ◌++◌, map, Option, refl, ap, sym, ◌∙◌}
+use Rattle.std.proofs.Common.{◌≡◌, ℕ, ◌+◌, max, List, map, Option, ap, sym, ◌∙◌}
 use Rattle.esb_token.specs.declared.token.Token.{Token}
 use Rattle.esb_tree.specs.declared.classes.ClassElement.TheOpen.{CaseClause-F, ClassElement-F, ConciseBody-F, Element-F, Else-F, Expression-F, Finalizer-F, ForStart-F, Handler-F, Heritage-F, Link-F, MaybeExpression-F, PropertyName-F, Statement-F}
 use Rattle.esb_tree.specs.declared.classes.ClassElement.TheFolds.{fold-roll-ClassElement, fold-roll-Heritage, fold-roll-Expression, fold-roll-Link, fold-roll-ConciseBody, fold-roll-Element, fold-roll-PropertyName, fold-roll-CaseClause, fold-roll-Else, fold-roll-Finalizer, fold-roll-ForStart, fold-roll-Handler, fold-roll-MaybeExpression, fold-roll-Statement, fold-roll-Class, fold-roll-Operand, fold-roll-Substitution, fold-roll-Substitutions, fold-roll-Function, fold-roll-Method, fold-roll-Bracketed, fold-roll-Elements, fold-roll-NextElement, fold-roll-Block, fold-roll-Declaration, fold-roll-ElseIf, fold-roll-IfClause}

@@ -1,5 +1,5 @@
 -- The tokens of each kind of node.
-use Rattle.std.proofs.Common.{◌≡◌, ℕ, ◌+◌, max, List, [], ◌∷◌, ◌++◌, map, Option, refl, ap, sym, ◌∙◌}
+use Rattle.std.proofs.Common.{◌≡◌, List, [], ◌∷◌, ◌++◌, map, Option, refl, ap, sym, ◌∙◌}
 use Rattle.std.specs.List.{flat_map}
 use Rattle.esb_token.specs.declared.token.Token.{Token}
 use Rattle.esb_tree.specs.declared.classes.ClassElement.TheOpen.{CaseClause-F, ClassElement-F, ConciseBody-F, Element-F, Else-F, Expression-F, Finalizer-F, ForStart-F, Handler-F, Heritage-F, Link-F, MaybeExpression-F, PropertyName-F, Statement-F}

@@ -19,3 +19,6 @@ pub use statements::{
     Block, CaseClause, Declaration, Else, ElseIf, Finalizer, ForStart, Handler, IfClause,
     MaybeExpression, Statement,
 };
+
+#[cfg(test)]
+mod tests;
