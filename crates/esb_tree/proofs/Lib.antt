@@ -1,0 +1,3 @@
+pub mod TokenLines
+pub mod LevelLines
+pub mod FitLines

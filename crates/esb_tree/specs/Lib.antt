@@ -1,0 +1,6 @@
+pub mod Yields
+pub mod Levels
+pub mod Trees
+pub mod Fits
+pub mod Modules
+pub mod Operators
