@@ -1,3 +1,4 @@
 pub mod TokenLines
 pub mod LevelLines
 pub mod FitLines
+pub mod Adding

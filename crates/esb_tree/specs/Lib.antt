@@ -1,4 +1,5 @@
 pub mod Yields
+pub mod Gathered
 pub mod Levels
 pub mod Trees
 pub mod Fits

@@ -4,10 +4,13 @@
 mod classes;
 mod expressions;
 mod functions;
+mod gathered;
 mod modules;
 mod operators;
 mod patterns;
 mod statements;
+mod tokens;
+mod yields;
 
 pub use classes::{Class, ClassElement, Heritage};
 pub use expressions::{Expression, Link, Operand, Substitution, Substitutions};
@@ -19,6 +22,7 @@ pub use statements::{
     Block, CaseClause, Declaration, Else, ElseIf, Finalizer, ForStart, Handler, IfClause,
     MaybeExpression, Statement,
 };
+pub use yields::yield_of;
 
 #[cfg(test)]
 mod tests;
