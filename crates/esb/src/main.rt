@@ -15,10 +15,11 @@ use std::process::ExitCode;
 use std::vec::Vec;
 use streams::{ReadSource, WriteSink};
 
-const HELP: &str = "usage: esb service --serial
+const HELP: &str = "usage: esb service --serial [--handshake=TEXT]
 
 Reads request packets from standard input, and writes their replies to standard output, on one
-thread. A packet is a frame of four bytes of length and a value: docs/PACKETS.md.
+thread. A packet is a frame of four bytes of length and a value: docs/PACKETS.md. TEXT, or else the
+version, is sent first, behind its length.
 
   --help     write this
   --version  write the version

@@ -15,7 +15,7 @@ pub use laws::{
     first_answers_stay, fitting_answers, same_questions_are_equal, same_tasks_are_equal,
 };
 pub use message::Message;
-pub use outcome::{OutFile, Outcome};
+pub use outcome::{Failures, OutFile, Outcome};
 pub use product::{Loaded, Product, Resolved};
 pub use question::Question;
 pub use table::Table;

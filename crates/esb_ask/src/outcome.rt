@@ -1,7 +1,7 @@
 ghost use Rattle.std.specs.Prelude.{◌≡◌, IfOk};
 
 use crate::message::Message;
-use esb_base::{Blob, List, Memory, Shared, Text};
+use esb_base::{Blob, List, Memory, PutFault, Shared, Text};
 
 /// A file that a build makes.
 #[derive(Drop)]
@@ -34,6 +34,27 @@ impl Outcome {
             Outcome::Errors(messages) => Ok(Outcome::Errors(messages.share()?)),
             Outcome::Canceled => Ok(Outcome::Canceled),
             Outcome::Memory => Ok(Outcome::Memory),
+        }
+    }
+}
+
+/// Which files of a build were not put.
+#[derive(Drop)]
+pub enum Failures {
+    /// The path and the fault of each, in the order of their paths.
+    Paths(Shared<List<(Text, PutFault)>>),
+    /// Memory was refused for the list, and each file counts as refused memory.
+    All,
+}
+
+impl Failures {
+    /// The same once more.
+    pub fn share(&self) -> Result<Failures, Memory>
+        ensures { IfOk result (λ failures. failures ≡ self.now) }
+    {
+        match self {
+            Failures::Paths(paths) => Ok(Failures::Paths(paths.share()?)),
+            Failures::All => Ok(Failures::All),
         }
     }
 }

@@ -1,5 +1,5 @@
 use super::*;
-use esb_base::{Blob, FileName, Memory, Text};
+use esb_base::{Blob, FileName, List, Memory, PutFault, Shared, Text};
 use std::alloc::Global;
 use std::test::Fail;
 
@@ -52,5 +52,24 @@ fn the_first_answer_is_kept(rt: HostRuntime) -> Result<(), Fail> {
 #[test]
 fn tasks_differ(rt: HostRuntime) -> Result<(), Fail> {
     assert!(rt; tells_tasks_apart(rt.alloc())?);
+    Ok(())
+}
+
+/// Whether files that were not put are told once more.
+fn tells_failures(alloc: Global) -> Result<bool, Memory> {
+    let mut paths = List::new(alloc);
+    paths.push((Text::of(alloc, "/w/out/a.txt")?, PutFault::Failed))?;
+    let some = Failures::Paths(Shared::new(alloc, paths)?);
+    let again = some.share()?;
+    let all = Failures::All.share()?;
+    let Failures::Paths(paths) = again else {
+        return Ok(false);
+    };
+    Ok(paths.get().len() == 1 && matches!(all, Failures::All))
+}
+
+#[test]
+fn failures_are_told(rt: HostRuntime) -> Result<(), Fail> {
+    assert!(rt; tells_failures(rt.alloc())?);
     Ok(())
 }

@@ -1,25 +1,16 @@
 -- What a worker holds: the claims that stand, by the list.
-use Rattle.std.proofs.Common.{◌≡◌, ◌⊎◌, ◌↔◌, inl, inr, ℕ, zero, suc, ◌+◌, ◌<◌, ◌≤◌, Bool, true, false, cond, not, ◌&&◌, ◌||◌, List, [], ◌∷◌, ◌++◌, length, Option, None, Some, is_none, Ok, Err, refl, sym, ap, subst, ◌∙◌, arith, nat_eq, nat_lt, eq-eqb, eqb-true, ltb-true, ltb-false, slice_set}
+use Rattle.std.proofs.Common.{◌≡◌, ◌⊎◌, ◌↔◌, inl, inr, ℕ, zero, suc, ◌+◌, ◌<◌, ◌≤◌, Bool, true, false, cond, not, ◌&&◌, ◌||◌, List, [], ◌∷◌, ◌++◌, length, Option, None, Some, is_none, refl, sym, ap, subst, ◌∙◌, arith, nat_eq, nat_lt, eq-eqb, eqb-true, ltb-true, ltb-false, slice_set}
 use Rattle.std.specs.Prelude.{count_by, filter}
 use Rattle.std.specs.List.{list_any}
 use Rattle.std.proofs.Math.Bool.{or-false}
 use Rattle.std.proofs.lemmas.Bool.{false≢true}
 use Rattle.std.proofs.lemmas.List.Folds.{list_any-append}
-use Rattle.esb_wire.specs.declared.value.Packet.{Packet}
-use Rattle.esb_flags.specs.declared.options.Options.{Options}
-use Rattle.esb_flags.specs.declared.command.Command.{Command}
-use Rattle.esb_flags.specs.declared.command.Command.TheVariants as command
-use Rattle.esb_flags.specs.Fields.{Answer as Asked}
-use Rattle.esb_flags.specs.Command.{asked}
-use Rattle.esb_ask.specs.declared.question.Question.{Question}
-use Rattle.esb_ask.specs.declared.answer.Answer.{Answer}
 use Rattle.esb_ask.specs.declared.message.Message.{Message}
 use Rattle.esb_ask.specs.declared.task.Task.{Task}
 use Rattle.esb_ask.specs.declared.product.Product.{Product}
 use Rattle.esb_ask.specs.declared.outcome.OutFile.{OutFile}
 use Rattle.esb_ask.specs.declared.outcome.Outcome.{Outcome}
 use Rattle.esb_ask.specs.declared.outcome.Outcome.TheVariants as outcomes
-use Rattle.esb_ask.specs.Table.{fits}
 use Rattle.esb_ask.specs.Tasks.{same_task, product_fits}
 use Rattle.esb_ask.proofs.SameTask.{equal-from_same_task, same_task-from_equal, same_task-refl}
 use Rattle.esb_core.specs.declared.event.Job.{Job}
@@ -29,17 +20,20 @@ use Rattle.esb_core.specs.declared.event.Role.TheVariants as role
 use Rattle.esb_core.specs.declared.event.Event.{Event}
 use Rattle.esb_core.specs.declared.event.Event.TheVariants as event
 use Rattle.esb_core.specs.State.{Building, State, build_at, no_build, start}
+use Rattle.esb_core.specs.Moves.{Move}
 use Rattle.esb_core.specs.Steps
-use Rattle.esb_core.specs.Steps.{after, after_packet, after_command, begun_if, most_builds, is_claim, task_claimed, link_claimed, recorded, delivered, settled, freed}
+use Rattle.esb_core.specs.Steps.{after, moves, all_moved, fresh, joined, answered, ended_by, is_claim, task_claimed, link_claimed, delivered, released, freed}
 use Rattle.esb_core.specs.Allowed.{allowed, has_begun, first_job, names_job, has_task, is_linker, has_claim, may_settle}
 use Rattle.esb_core.specs.History.{is_legal, replay}
-use Rattle.esb_core.specs.Laws.{claims_task, gives_task, gives_link, delivers, settles_by, holds_task, holds_link, HoldsTask}
+use Rattle.esb_core.specs.Work.{claims_task, gives_task, gives_link, delivers, settles_by, holds_task, holds_link, HoldsTask}
 use Rattle.esb_core.proofs.Claims.{claim-is, scan-is, link-is, both_parts}
-use Rattle.esb_core.proofs.Pushes.{count-push}
+use Rattle.esb_core.proofs.Each.{each-all_moved}
+use Rattle.esb_core.proofs.Laws.{all_moved-longer}
+use Rattle.esb_core.proofs.Moving.{count-push}
 use Rattle.esb_core.proofs.Readings.{at-set}
 use Rattle.esb_core.proofs.Replays.{replay_from-append, stands-push}
 use Rattle.esb_core.proofs.Legal.{each_legal}
-use Rattle.esb_core.proofs.Once.{claimed-once, push-once, count-cons}
+use Rattle.esb_core.proofs.Once.{claimed-once, count-cons, is_settled_after}
 
 -- the claims of a build are those that the list left standing
 pub record IsHeld (b : Building) (n : ℕ) (events : List Event) : Type 0 where
@@ -50,7 +44,7 @@ pub record IsHeld (b : Building) (n : ℕ) (events : List Event) : Type 0 where
 
 -- ---- truth values and lists
 
-any-push : {X : Type 0} (p : X → Bool) (xs : List X) (x : X) → list_any p (xs ++ x ∷ []) ≡ (list_any p xs || p x)
+pub any-push : {X : Type 0} (p : X → Bool) (xs : List X) (x : X) → list_any p (xs ++ x ∷ []) ≡ (list_any p xs || p x)
 any-push p xs x = list_any-append p xs (x ∷ []) ∙ ap (λ t. list_any p xs || t) (or-false (p x))
 
 quiet : {X : Type 0} (p : X → Bool) (xs : List X) (x : X) → p x ≡ false → list_any p (xs ++ x ∷ []) ≡ list_any p xs
@@ -60,11 +54,11 @@ and-false : (b : Bool) → (b && false) ≡ false
 and-false true = refl
 and-false false = refl
 
-or-true : (b : Bool) → (b || true) ≡ true
+pub or-true : (b : Bool) → (b || true) ≡ true
 or-true true = refl
 or-true false = refl
 
-left-true : (a b : Bool) → a ≡ true → (a || b) ≡ true
+pub left-true : (a b : Bool) → a ≡ true → (a || b) ≡ true
 left-true a b e = ap (λ t. t || b) e
 
 any-filter : {X : Type 0} (p keep : X → Bool) → ((x : X) → p x ≡ true → keep x ≡ true) → (xs : List X) → list_any p (filter keep xs) ≡ list_any p xs
@@ -121,13 +115,9 @@ same-held b c n es claims linker outcome h = record {
   given = h.given;
 }
 
-recorded-held : (b : Building) (n : ℕ) (es : List Event) (q : Question) (a : Answer) (o : Option Outcome) → IsHeld b n es → IsHeld (recorded b q a o) n es
-recorded-held b n es q a None h = same-held b (recorded b q a None) n es refl refl (λ none. none) h
-recorded-held b n es q a (Some o) h = h
-
 -- ---- a task is given to a worker
 
-gives-claims : (w n : ℕ) (t : Task) (e : Event) → gives_task w n t e ≡ true → claims_task n t e ≡ true
+pub gives-claims : (w n : ℕ) (t : Task) (e : Event) → gives_task w n t e ≡ true → claims_task n t e ≡ true
 gives-claims w n t (event.Claim (role.Worker v) (job.Scan m u)) is =
     let parts = both_parts (nat_eq v w) (nat_eq m n && same_task u t) is in
     let more = both_parts (nat_eq m n) (same_task u t) parts.1 in
@@ -293,9 +283,6 @@ module _ (b : Building) (n : ℕ) (es : List Event) (v : ℕ) (u : Task) (p : Pr
 
 -- ---- a build is settled
 
-settled_is_not : {X : Type 0} (o : Outcome) → Some o ≡ None → X
-settled_is_not o e = absurd (let f : ⊥ = cc in f)
-
 module _ (b : Building) (n : ℕ) (es : List Event) (v : ℕ) (o : Outcome) (h : IsHeld b n es) where
   end-test : (w : ℕ) → settles_by w n (event.Settle v n o) ≡ nat_eq v w
   end-test w = ap (λ c. nat_eq v w && c) (eq-eqb n n refl) ∙ and-true (nat_eq v w)
@@ -361,9 +348,8 @@ module _ (b : Building) (n : ℕ) (es : List Event) (v : ℕ) (o : Outcome) (h :
   end-given : (w : ℕ) (t : Task) → list_any (delivers w n t) (es ++ event.Settle v n o ∷ []) ≡ true → list_any (gives_task w n t) (es ++ event.Settle v n o ∷ []) ≡ true
   end-given w t back = quiet (gives_task w n t) es (event.Settle v n o) refl ∙ h.given w t (sym (quiet (delivers w n t) es (event.Settle v n o) refl) ∙ back)
 
-  end-held : (q : Option Outcome) → b.outcome ≡ q → IsHeld (settled b v o q) n (es ++ event.Settle v n o ∷ [])
-  end-held None is = record { tasks = end-tasks; link = end-link; unsettled = λ none. settled_is_not o none; given = end-given }
-  end-held (Some q) is = record { tasks = end-tasks; link = end-link; unsettled = λ none. settled_is_not q (sym is ∙ none); given = end-given }
+  end-held : (b.outcome ≡ None → ⊥) → IsHeld (released b v) n (es ++ event.Settle v n o ∷ [])
+  end-held settled = record { tasks = end-tasks; link = end-link; unsettled = λ none. absurd (settled none); given = end-given }
 
 -- ---- the builds
 
@@ -385,29 +371,18 @@ elsewhere v n m t apart w u = ap (λ c. nat_eq v w && (c && same_task t u)) apar
 elsewhere-end : (v n m : ℕ) → nat_eq n m ≡ false → (w : ℕ) → (nat_eq v w && nat_eq n m) ≡ false
 elsewhere-end v n m apart w = ap (λ c. nat_eq v w && c) apart ∙ and-false (nat_eq v w)
 
+-- moves leave what is held
+moved-held : (s : State) (ms : List Move) (es : List Event) → AreHeld s.builds es → (let t : State = all_moved s ms in AreHeld t.builds es)
+moved-held s ms es all =
+    each-all_moved (λ n b. IsHeld b n es) (λ n key options h. same-held no_build (fresh key options) n es refl refl (λ none. refl) h)
+    (λ n b id h. same-held b (joined b id) n es refl refl (λ none. none) h)
+    (λ n b q a h. same-held b (answered b q a) n es refl refl (λ none. none) h)
+    (λ n b o h. same-held b (ended_by b o) n es refl refl (λ none. absurd (let f : ⊥ = cc in f)) h)
+    s ms all
+
 module _ (s : State) (es : List Event) (all : AreHeld s.builds es) where
   idle : (e : Event) → ((n : ℕ) → IsApart n e) → AreHeld s.builds (es ++ e ∷ [])
   idle e apart m = apart-held (build_at s.builds m) m es e (apart m) (all m)
-
-  arrive-held : (p : Packet) → (let t : State = after_packet s p p.request in AreHeld t.builds (es ++ event.Arrive p ∷ []))
-  arrive-held p = by p.request
-    where
-      same : AreHeld s.builds (es ++ event.Arrive p ∷ [])
-      same = idle (event.Arrive p) (λ n. record { give = λ w t. refl; link = λ w. refl; give_back = λ w t. refl; settle = λ w. refl })
-
-      room : (key : ℕ) (options : Options) (t : Bool) → (let u : State = begun_if s p.id key options t in AreHeld u.builds (es ++ event.Arrive p ∷ []))
-      room key options true =
-          push-once (λ k b. IsHeld b k (es ++ event.Arrive p ∷ [])) s.builds (Steps.fresh p.id key options) same
-          (λ k h. same-held no_build (Steps.fresh p.id key options) k (es ++ event.Arrive p ∷ []) refl refl (λ none. refl) h)
-      room key options false = same
-
-      ask : (a : Asked Command) → (let u : State = after_command s p.id a in AreHeld u.builds (es ++ event.Arrive p ∷ []))
-      ask (Err text) = same
-      ask (Ok (command.Build key options)) = room key options (nat_lt (length s.builds) most_builds)
-
-      by : (t : Bool) → (let u : State = after_packet s p t in AreHeld u.builds (es ++ event.Arrive p ∷ []))
-      by true = ask (asked p.value)
-      by false = same
 
   claims-held : (r : Role) (j : Job) → names_job (first_job s r) j ≡ true → ((n : ℕ) (t : Task) → j ≡ job.Scan n t → count_by (claims_task n t) es ≡ 0)
       → (let t : State = Steps.after_claim s r j in AreHeld t.builds (es ++ event.Claim r j ∷ []))
@@ -430,31 +405,39 @@ module _ (s : State) (es : List Event) (all : AreHeld s.builds es) where
       none_of (Some k) e = absurd (false≢true e)
   claims-held (role.Door door) j may new = absurd (false≢true may)
 
-  step-held : (e : Event) → allowed s e ≡ true → ((n : ℕ) (t : Task) (r : Role) → e ≡ event.Claim r (job.Scan n t) → count_by (claims_task n t) es ≡ 0)
-      → (let t : State = after s e in AreHeld t.builds (es ++ e ∷ []))
-  step-held (event.Arrive packet) may new = arrive-held packet
-  step-held event.EndOfInput may new = idle event.EndOfInput (λ n. record { give = λ w t. refl; link = λ w. refl; give_back = λ w t. refl; settle = λ w. refl })
-  step-held (event.Claim r j) may new = claims-held r j may (λ n t is. new n t r (ap (λ (k : Job). event.Claim r k) is))
-  step-held (event.Record worker n q a) may new =
-      set-held s.builds n (recorded (build_at s.builds n) q a (build_at s.builds n).outcome) (es ++ event.Record worker n q a ∷ [])
-      (ltb-true n (length s.builds) (both_parts (has_begun s n) (fits q a) may).0)
-      (apart-held (recorded (build_at s.builds n) q a (build_at s.builds n).outcome) n es (event.Record worker n q a)
-      (record { give = λ w t. refl; link = λ w. refl; give_back = λ w t. refl; settle = λ w. refl })
-      (recorded-held (build_at s.builds n) n es q a (build_at s.builds n).outcome (all n)))
-      (λ m apart. idle (event.Record worker n q a) (λ k. record { give = λ w t. refl; link = λ w. refl; give_back = λ w t. refl; settle = λ w. refl }) m)
-  step-held (event.Deliver v n t p) may new =
-      let parts = both_parts (has_begun s n) (has_task (build_at s.builds n) v t && product_fits t p) may in
-      set-held s.builds n (delivered (build_at s.builds n) v t p (build_at s.builds n).outcome) (es ++ event.Deliver v n t p ∷ []) (ltb-true n (length s.builds) parts.0)
-      (back-held (build_at s.builds n) n es v t p (all n) (both_parts (has_task (build_at s.builds n) v t) (product_fits t p) parts.1).0 (build_at s.builds n).outcome)
+  back-changes : (v n : ℕ) (t : Task) (p : Product) → n < length s.builds → has_task (build_at s.builds n) v t ≡ true
+      → AreHeld (slice_set s.builds n (delivered (build_at s.builds n) v t p (build_at s.builds n).outcome)) (es ++ event.Deliver v n t p ∷ [])
+  back-changes v n t p lt held =
+      set-held s.builds n (delivered (build_at s.builds n) v t p (build_at s.builds n).outcome) (es ++ event.Deliver v n t p ∷ []) lt
+      (back-held (build_at s.builds n) n es v t p (all n) held (build_at s.builds n).outcome)
       (λ m apart. apart-held (build_at s.builds m) m es (event.Deliver v n t p)
       (record { give = λ w u. refl; link = λ w. refl; give_back = λ w u. elsewhere v n m t apart w u; settle = λ w. refl }) (all m))
-  step-held (event.Settle v n o) may new =
-      set-held s.builds n (settled (build_at s.builds n) v o (build_at s.builds n).outcome) (es ++ event.Settle v n o ∷ [])
-      (ltb-true n (length s.builds) (both_parts (has_begun s n) (may_settle (build_at s.builds n) v o) may).0)
-      (end-held (build_at s.builds n) n es v o (all n) (build_at s.builds n).outcome refl)
+
+  end-changes : (v n : ℕ) (o : Outcome) → n < length s.builds → ((build_at s.builds n).outcome ≡ None → ⊥)
+      → AreHeld (slice_set s.builds n (released (build_at s.builds n) v)) (es ++ event.Settle v n o ∷ [])
+  end-changes v n o lt settled =
+      set-held s.builds n (released (build_at s.builds n) v) (es ++ event.Settle v n o ∷ []) lt (end-held (build_at s.builds n) n es v o (all n) settled)
       (λ m apart. apart-held (build_at s.builds m) m es (event.Settle v n o)
       (record { give = λ w u. refl; link = λ w. refl; give_back = λ w u. refl; settle = λ w. elsewhere-end v n m apart w }) (all m))
-  step-held event.Pop may new = idle event.Pop (λ n. record { give = λ w t. refl; link = λ w. refl; give_back = λ w t. refl; settle = λ w. refl })
+
+step-held : (s : State) (es : List Event) (e : Event) → AreHeld s.builds es → allowed s e ≡ true → ((n : ℕ) (t : Task) (r : Role) → e ≡ event.Claim r (job.Scan n t) → count_by (claims_task n t) es ≡ 0)
+    → (let t : State = after s e in AreHeld t.builds (es ++ e ∷ []))
+step-held s es (event.Claim r j) all may new = claims-held s es all r j may (λ n t is. new n t r (ap (λ (k : Job). event.Claim r k) is))
+step-held s es (event.Deliver v n t p) all may new =
+    let parts = both_parts (has_begun s n) (has_task (build_at s.builds n) v t && product_fits t p) may in
+    back-changes s es all v n t p (ltb-true n (length s.builds) parts.0) (both_parts (has_task (build_at s.builds n) v t) (product_fits t p) parts.1).0
+step-held s es (event.Settle v n o) all may new =
+    let lt = ltb-true n (length s.builds) (both_parts (has_begun s n) (may_settle (build_at s.builds n) v o) may).0 in
+    let longer = all_moved-longer s (moves s (event.Settle v n o)) in
+    end-changes (all_moved s (moves s (event.Settle v n o))) es (moved-held s (moves s (event.Settle v n o)) es all) v n o (omega (arith, lt, longer)) (is_settled_after s v n o may)
+step-held s es (event.Arrive p) all may new =
+    idle (all_moved s (moves s (event.Arrive p))) es (moved-held s (moves s (event.Arrive p)) es all) (event.Arrive p) (λ n. record { give = λ w t. refl; link = λ w. refl; give_back = λ w t. refl; settle = λ w. refl })
+step-held s es (event.Record worker n q a) all may new =
+    idle (all_moved s (moves s (event.Record worker n q a))) es (moved-held s (moves s (event.Record worker n q a)) es all) (event.Record worker n q a)
+    (λ k. record { give = λ w t. refl; link = λ w. refl; give_back = λ w t. refl; settle = λ w. refl })
+step-held s es event.EndOfInput all may new = idle s es all event.EndOfInput (λ n. record { give = λ w t. refl; link = λ w. refl; give_back = λ w t. refl; settle = λ w. refl })
+step-held s es event.Pop all may new =
+    idle (all_moved s (moves s event.Pop)) es (moved-held s (moves s event.Pop) es all) event.Pop (λ n. record { give = λ w t. refl; link = λ w. refl; give_back = λ w t. refl; settle = λ w. refl })
 
 none-held : AreHeld [] []
 none-held m = record { tasks = λ w t. refl; link = λ w. refl; unsettled = λ none w. refl; given = λ w t back. back }
@@ -475,7 +458,7 @@ pub held : (events : List Event) → is_legal events ≡ true → (n : ℕ) → 
 held events legal =
     each_legal (λ es. AreHeld (replay es).builds es) none-held
     (λ es e before may all.
-    subst (λ (t : State). AreHeld t.builds (es ++ e ∷ [])) (sym (replay_from-append start es (e ∷ []))) (step-held (replay es) es all e may (unclaimed_yet es e before may)))
+    subst (λ (t : State). AreHeld t.builds (es ++ e ∷ [])) (sym (replay_from-append start es (e ∷ []))) (step-held (replay es) es e all may (unclaimed_yet es e before may)))
     events legal
 
 -- ---- what may come

@@ -1,24 +1,16 @@
 -- Each task and each link is claimed once.
-use Rattle.std.proofs.Common.{◌≡◌, ℕ, zero, suc, ◌+◌, ◌<◌, ◌≤◌, Bool, true, false, cond, ◌&&◌, List, [], ◌∷◌, ◌++◌, length, take, Option, None, Some, is_none, Ok, Err, refl, sym, ap, subst, ◌∙◌, arith, nat_eq, nat_lt, eq-eqb, eqb-true, ltb-true, length-append, slice_get, slice_set, ◌||◌}
+use Rattle.std.proofs.Common.{◌≡◌, ℕ, zero, suc, ◌+◌, ◌<◌, ◌≤◌, Bool, true, false, cond, ◌&&◌, List, [], ◌∷◌, ◌++◌, length, take, Option, None, Some, is_none, refl, sym, ap, subst, ◌∙◌, arith, nat_eq, eq-eqb, eqb-true, ltb-true, length-append, slice_get, slice_set, ◌||◌}
 use Rattle.std.specs.Prelude.{count_by}
 use Rattle.std.specs.List.{list_any}
 use Rattle.std.proofs.lemmas.Bool.{false≢true}
 use Rattle.std.proofs.lemmas.List.{take-append-le}
 use Rattle.std.proofs.lemmas.List.Sums.{sum_by-cons}
-use Rattle.esb_wire.specs.declared.value.Packet.{Packet}
 use Rattle.esb_flags.specs.declared.options.Options.{Options}
-use Rattle.esb_flags.specs.declared.command.Command.{Command}
-use Rattle.esb_flags.specs.declared.command.Command.TheVariants as command
-use Rattle.esb_flags.specs.Fields.{Answer as Asked}
-use Rattle.esb_flags.specs.Command.{asked}
-use Rattle.esb_ask.specs.declared.question.Question.{Question}
-use Rattle.esb_ask.specs.declared.answer.Answer.{Answer}
 use Rattle.esb_ask.specs.declared.task.Task.{Task}
 use Rattle.esb_ask.specs.declared.task.Task.TheVariants as task
 use Rattle.esb_ask.specs.declared.product.Product.{Product}
 use Rattle.esb_ask.specs.declared.outcome.Outcome.{Outcome}
-use Rattle.esb_ask.specs.Table.{fits}
-use Rattle.esb_ask.specs.Tasks.{same_task, product_fits}
+use Rattle.esb_ask.specs.Tasks.{same_task}
 use Rattle.esb_ask.proofs.SameTask.{same_task-Decides}
 use Rattle.esb_core.specs.declared.event.Job.{Job}
 use Rattle.esb_core.specs.declared.event.Job.TheVariants as job
@@ -27,13 +19,15 @@ use Rattle.esb_core.specs.declared.event.Role.TheVariants as role
 use Rattle.esb_core.specs.declared.event.Event.{Event}
 use Rattle.esb_core.specs.declared.event.Event.TheVariants as event
 use Rattle.esb_core.specs.State.{Building, State, build_at, no_build, start}
+use Rattle.esb_core.specs.Moves.{Move, closed, closed_unless}
 use Rattle.esb_core.specs.Steps
-use Rattle.esb_core.specs.Steps.{after, after_packet, after_command, begun_if, most_builds, entry_tasks_from, named, opened, task_claimed, link_claimed, recorded, delivered, settled}
-use Rattle.esb_core.specs.Allowed.{allowed, has_begun, first_job, names_job, has_task, may_settle}
+use Rattle.esb_core.specs.Steps.{after, moves, all_moved, standing, fresh, joined, answered, ended_by, entry_tasks_from, named, opened, task_claimed, link_claimed, delivered, released}
+use Rattle.esb_core.specs.Allowed.{allowed, has_begun, first_job, names_job, may_settle}
 use Rattle.esb_core.specs.History.{is_legal, replay}
-use Rattle.esb_core.specs.Laws.{claims_task, claims_link}
+use Rattle.esb_core.specs.Work.{claims_task, claims_link}
 use Rattle.esb_core.proofs.Claims.{claim-is, scan-is, link-is, both_parts}
-use Rattle.esb_core.proofs.Pushes.{count-push}
+use Rattle.esb_core.proofs.Each.{each-set, each-all_moved}
+use Rattle.esb_core.proofs.Moving.{count-push}
 use Rattle.esb_core.proofs.Readings.{at-set}
 use Rattle.esb_core.proofs.Replays.{replay_from-append}
 use Rattle.esb_core.proofs.Legal.{each_legal}
@@ -52,7 +46,7 @@ pub record IsOnce (b : Building) (n : ℕ) (events : List Event) : Type 0 where
 pub count-cons : {X : Type 0} (p : X → Bool) (x : X) (xs : List X) → count_by p (x ∷ xs) ≡ cond (p x) 1 0 + count_by p xs
 count-cons p x xs = sum_by-cons (λ y. cond (p y) 1 0) x xs
 
-count-take : {X : Type 0} (p : X → Bool) (xs : List X) (k : ℕ) → count_by p (take k xs) ≤ count_by p xs
+pub count-take : {X : Type 0} (p : X → Bool) (xs : List X) (k : ℕ) → count_by p (take k xs) ≤ count_by p xs
 count-take p [] zero = omega arith
 count-take p [] (suc k) = omega arith
 count-take p (x ∷ xs) zero = omega arith
@@ -62,7 +56,7 @@ count-take p (x ∷ xs) (suc k) =
     let few = count-cons p x (take k xs) in
     omega (arith, rest, more, few)
 
-count-none : {X : Type 0} (p : X → Bool) (xs : List X) → list_any p xs ≡ false → count_by p xs ≡ 0
+pub count-none : {X : Type 0} (p : X → Bool) (xs : List X) → list_any p xs ≡ false → count_by p xs ≡ 0
 count-none p [] e = refl
 count-none p (x ∷ xs) e = count-cons p x xs ∙ by (p x) e (count-none p xs)
   where
@@ -70,7 +64,7 @@ count-none p (x ∷ xs) e = count-cons p x xs ∙ by (p x) e (count-none p xs)
     by true is rec = absurd (false≢true (sym is))
     by false is rec = let rest = rec is in omega (arith, rest)
 
-take-next : {X : Type 0} (xs : List X) (k : ℕ) (x : X) → slice_get xs k ≡ Some x → take (k + 1) xs ≡ take k xs ++ x ∷ []
+pub take-next : {X : Type 0} (xs : List X) (k : ℕ) (x : X) → slice_get xs k ≡ Some x → take (k + 1) xs ≡ take k xs ++ x ∷ []
 take-next [] k x e = absurd (let f : ⊥ = cc in f)
 take-next (y ∷ ys) zero x e = let same : y ≡ x = cc in ap (λ z. z ∷ []) same
 take-next (y ∷ ys) (suc k) x e = let next : suc k + 1 ≡ suc (k + 1) = omega arith in ap (λ j. take j (y ∷ ys)) next ∙ ap (λ zs. y ∷ zs) (take-next ys k x e)
@@ -137,16 +131,9 @@ reshaped b c n es tasks claimed open_still h = record {
   once = h.once;
 }
 
-settled_is_not : {X : Type 0} (o : Outcome) → Some o ≡ None → X
-settled_is_not o e = absurd (let f : ⊥ = cc in f)
-
-recorded-once : (b : Building) (n : ℕ) (es : List Event) (q : Question) (a : Answer) (o : Option Outcome) → IsOnce b n es → IsOnce (recorded b q a o) n es
-recorded-once b n es q a None h = reshaped b (recorded b q a None) n es refl refl (λ none free. (none, free)) h
-recorded-once b n es q a (Some o) h = h
-
-settled-once : (b : Building) (n : ℕ) (es : List Event) (worker : ℕ) (o : Outcome) (p : Option Outcome) → b.outcome ≡ p → IsOnce b n es → IsOnce (settled b worker o p) n es
-settled-once b n es worker o None is h = reshaped b (settled b worker o None) n es refl refl (λ none free. settled_is_not o none) h
-settled-once b n es worker o (Some p) is h = reshaped b (settled b worker o (Some p)) n es refl refl (λ none free. settled_is_not p (sym is ∙ none)) h
+-- the claims of a worker end in a build that is settled
+released-once : (b : Building) (n : ℕ) (es : List Event) (worker : ℕ) → (b.outcome ≡ None → ⊥) → IsOnce b n es → IsOnce (released b worker) n es
+released-once b n es worker settled h = reshaped b (released b worker) n es refl refl (λ none free. absurd (settled none)) h
 
 opened-once : (b c : Building) (n : ℕ) (es : List Event) (u : Option Task) → c.tasks ≡ opened b.tasks u → c.claimed ≡ b.claimed → c.outcome ≡ b.outcome → c.linker ≡ b.linker → IsOnce b n es → IsOnce c n es
 opened-once b c n es None tasks claimed outcome linker h = reshaped b c n es tasks claimed (λ none free. (sym outcome ∙ none, sym linker ∙ free)) h
@@ -232,15 +219,8 @@ set-once bs n b events lt own others m = subst (λ (c : Building). IsOnce c m ev
     by true same = subst (λ (k : ℕ). IsOnce b k events) (eqb-true n m same) own
     by false apart = others m apart
 
--- one build more, where none stood
-pub push-once : (P : ℕ → Building → Type 0) (bs : List Building) (b : Building) → ((k : ℕ) → P k (build_at bs k)) → ((k : ℕ) → P k no_build → P k b) → (m : ℕ) → P m (build_at (bs ++ b ∷ []) m)
-push-once P [] b all own zero = own 0 (all 0)
-push-once P [] b all own (suc m) = all (suc m)
-push-once P (c ∷ bs) b all own zero = all 0
-push-once P (c ∷ bs) b all own (suc m) = push-once (λ k. P (suc k)) bs b (λ k. all (suc k)) (λ k. own (suc k)) m
-
-fresh-once : (id key : ℕ) (options : Options) (n : ℕ) (es : List Event) → IsOnce no_build n es → IsOnce (Steps.fresh id key options) n es
-fresh-once id key options n es h = record {
+fresh-once : (n : ℕ) (es : List Event) (key : ℕ) (options : Options) → IsOnce no_build n es → IsOnce (fresh key options) n es
+fresh-once n es key options h = record {
   claims = λ t. h.claims t;
   differ = λ t. entries-differ 0 (length options.entries) t;
   within = omega arith;
@@ -249,34 +229,24 @@ fresh-once id key options n es h = record {
   once = h.once;
 }
 
+-- moves claim nothing
+moved-once : (s : State) (ms : List Move) (es : List Event) → AreOnce s.builds es → (let t : State = all_moved s ms in AreOnce t.builds es)
+moved-once s ms es all =
+    each-all_moved (λ n b. IsOnce b n es) (λ n key options h. fresh-once n es key options h)
+    (λ n b id h. reshaped b (joined b id) n es refl refl (λ none free. (none, free)) h)
+    (λ n b q a h. reshaped b (answered b q a) n es refl refl (λ none free. (none, free)) h)
+    (λ n b o h. reshaped b (ended_by b o) n es refl refl (λ none free. absurd (let f : ⊥ = cc in f)) h)
+    s ms all
+
 module _ (s : State) (es : List Event) (all : AreOnce s.builds es) where
   -- an event that claims nothing
   idle : (e : Event) → ((n : ℕ) (t : Task) → claims_task n t e ≡ false) → ((n : ℕ) → claims_link n e ≡ false) → AreOnce s.builds (es ++ e ∷ [])
   idle e no_task no_link m = unclaimed (build_at s.builds m) m es e (no_task m) (no_link m) (all m)
 
-  arrive-once : (p : Packet) → (let t : State = after_packet s p p.request in AreOnce t.builds (es ++ event.Arrive p ∷ []))
-  arrive-once p = by p.request
-    where
-      same : AreOnce s.builds (es ++ event.Arrive p ∷ [])
-      same = idle (event.Arrive p) (λ n t. refl) (λ n. refl)
-
-      room : (key : ℕ) (options : Options) (t : Bool) → (let u : State = begun_if s p.id key options t in AreOnce u.builds (es ++ event.Arrive p ∷ []))
-      room key options true =
-          push-once (λ k b. IsOnce b k (es ++ event.Arrive p ∷ [])) s.builds (Steps.fresh p.id key options) same (λ k h. fresh-once p.id key options k (es ++ event.Arrive p ∷ []) h)
-      room key options false = same
-
-      ask : (a : Asked Command) → (let u : State = after_command s p.id a in AreOnce u.builds (es ++ event.Arrive p ∷ []))
-      ask (Err text) = same
-      ask (Ok (command.Build key options)) = room key options (nat_lt (length s.builds) most_builds)
-
-      by : (t : Bool) → (let u : State = after_packet s p t in AreOnce u.builds (es ++ event.Arrive p ∷ []))
-      by true = ask (asked p.value)
-      by false = same
-
   -- an event that changes one build and claims nothing
-  changes-once : (e : Event) (n : ℕ) (b : Building) → n < length s.builds → ((m : ℕ) (t : Task) → claims_task m t e ≡ false) → ((m : ℕ) → claims_link m e ≡ false)
+  changes-once : (e : Event) (n : ℕ) (b : Building) → ((m : ℕ) (t : Task) → claims_task m t e ≡ false) → ((m : ℕ) → claims_link m e ≡ false)
       → IsOnce b n es → AreOnce (slice_set s.builds n b) (es ++ e ∷ [])
-  changes-once e n b lt no_task no_link own = set-once s.builds n b (es ++ e ∷ []) lt (unclaimed b n es e (no_task n) (no_link n) own) (λ m apart. idle e no_task no_link m)
+  changes-once e n b no_task no_link own = each-set (λ m c. IsOnce c m (es ++ e ∷ [])) s.builds n b (idle e no_task no_link) (unclaimed b n es e (no_task n) (no_link n) own)
 
   claims-once : (r : Role) (j : Job) → names_job (first_job s r) j ≡ true → (let t : State = Steps.after_claim s r j in AreOnce t.builds (es ++ event.Claim r j ∷ []))
   claims-once (role.Worker worker) (job.Scan n t) may =
@@ -296,22 +266,42 @@ module _ (s : State) (es : List Event) (all : AreOnce s.builds es) where
       none_of (Some k) e = absurd (false≢true e)
   claims-once (role.Door door) j may = absurd (false≢true may)
 
-  step-once : (e : Event) → allowed s e ≡ true → (let t : State = after s e in AreOnce t.builds (es ++ e ∷ []))
-  step-once (event.Arrive packet) may = arrive-once packet
-  step-once event.EndOfInput may = idle event.EndOfInput (λ n t. refl) (λ n. refl)
-  step-once (event.Claim r j) may = claims-once r j may
-  step-once (event.Record worker n q a) may =
-      changes-once (event.Record worker n q a) n (recorded (build_at s.builds n) q a (build_at s.builds n).outcome) (ltb-true n (length s.builds) (both_parts (has_begun s n) (fits q a) may).0)
-      (λ m t. refl) (λ m. refl) (recorded-once (build_at s.builds n) n es q a (build_at s.builds n).outcome (all n))
-  step-once (event.Deliver worker n t p) may =
-      changes-once (event.Deliver worker n t p) n (delivered (build_at s.builds n) worker t p (build_at s.builds n).outcome)
-      (ltb-true n (length s.builds) (both_parts (has_begun s n) (has_task (build_at s.builds n) worker t && product_fits t p) may).0) (λ m u. refl) (λ m. refl)
-      (delivered-once (build_at s.builds n) n es worker t p (build_at s.builds n).outcome (all n))
-  step-once (event.Settle worker n o) may =
-      changes-once (event.Settle worker n o) n (settled (build_at s.builds n) worker o (build_at s.builds n).outcome)
-      (ltb-true n (length s.builds) (both_parts (has_begun s n) (may_settle (build_at s.builds n) worker o) may).0) (λ m t. refl) (λ m. refl)
-      (settled-once (build_at s.builds n) n es worker o (build_at s.builds n).outcome refl (all n))
-  step-once event.Pop may = idle event.Pop (λ n t. refl) (λ n. refl)
+-- a build that a worker settles is settled once the moves are made
+pub is_settled_after : (s : State) (worker n : ℕ) (o : Outcome) → allowed s (event.Settle worker n o) ≡ true → (build_at (all_moved s (moves s (event.Settle worker n o))).builds n).outcome ≡ None → ⊥
+is_settled_after s worker n o may = by (build_at s.builds n).outcome refl
+  where
+    lt : n < length s.builds
+    lt = ltb-true n (length s.builds) (both_parts (has_begun s n) (may_settle (build_at s.builds n) worker o) may).0
+
+    ended : build_at (slice_set s.builds n (ended_by (build_at s.builds n) o)) n ≡ ended_by (build_at s.builds n) o
+    ended = at-set s.builds n (ended_by (build_at s.builds n) o) n lt ∙ ap (λ t. cond t (ended_by (build_at s.builds n) o) (build_at s.builds n)) (eq-eqb n n refl)
+
+    some : (c : Building) → c ≡ ended_by (build_at s.builds n) o → c.outcome ≡ None → ⊥
+    some c is none = let said : Some o ≡ None = sym (ap (λ (b : Building). b.outcome) is) ∙ none in let f : ⊥ = cc in f
+
+    closes : (stays : Bool) → (build_at (all_moved s (closed (build_at s.builds n).key stays n o)).builds n).outcome ≡ None → ⊥
+    closes true none = some (build_at (slice_set s.builds n (ended_by (build_at s.builds n) o)) n) ended none
+    closes false none = some (build_at (slice_set s.builds n (ended_by (build_at s.builds n) o)) n) ended none
+
+    by : (p : Option Outcome) → (build_at s.builds n).outcome ≡ p → (build_at (all_moved s (closed_unless (standing s n) n o p)).builds n).outcome ≡ None → ⊥
+    by None is none = closes (build_at s.builds n).options.context none
+    by (Some p) is none = let said : Some p ≡ None = sym is ∙ none in let f : ⊥ = cc in f
+
+step-once : (s : State) (es : List Event) (e : Event) → AreOnce s.builds es → allowed s e ≡ true → (let t : State = after s e in AreOnce t.builds (es ++ e ∷ []))
+step-once s es (event.Claim r j) all may = claims-once s es all r j may
+step-once s es (event.Deliver worker n t p) all may =
+    changes-once s es all (event.Deliver worker n t p) n (delivered (build_at s.builds n) worker t p (build_at s.builds n).outcome) (λ m u. refl) (λ m. refl)
+    (delivered-once (build_at s.builds n) n es worker t p (build_at s.builds n).outcome (all n))
+step-once s es (event.Settle worker n o) all may =
+    let t : State = all_moved s (moves s (event.Settle worker n o)) in
+    let now : AreOnce t.builds es = moved-once s (moves s (event.Settle worker n o)) es all in
+    changes-once t es now (event.Settle worker n o) n (released (build_at t.builds n) worker) (λ m u. refl) (λ m. refl)
+    (released-once (build_at t.builds n) n es worker (is_settled_after s worker n o may) (now n))
+step-once s es (event.Arrive p) all may = idle (all_moved s (moves s (event.Arrive p))) es (moved-once s (moves s (event.Arrive p)) es all) (event.Arrive p) (λ n t. refl) (λ n. refl)
+step-once s es (event.Record worker n q a) all may =
+    idle (all_moved s (moves s (event.Record worker n q a))) es (moved-once s (moves s (event.Record worker n q a)) es all) (event.Record worker n q a) (λ m t. refl) (λ m. refl)
+step-once s es event.EndOfInput all may = idle s es all event.EndOfInput (λ n t. refl) (λ n. refl)
+step-once s es event.Pop all may = idle (all_moved s (moves s event.Pop)) es (moved-once s (moves s event.Pop) es all) event.Pop (λ n t. refl) (λ n. refl)
 
 none-once : AreOnce [] []
 none-once m = record {
@@ -326,5 +316,5 @@ none-once m = record {
 pub claimed-once : (events : List Event) → is_legal events ≡ true → (n : ℕ) → IsOnce (build_at (replay events).builds n) n events
 claimed-once events legal =
     each_legal (λ es. AreOnce (replay es).builds es) none-once
-    (λ es e before may all. subst (λ (t : State). AreOnce t.builds (es ++ e ∷ [])) (sym (replay_from-append start es (e ∷ []))) (step-once (replay es) es all e may))
+    (λ es e before may all. subst (λ (t : State). AreOnce t.builds (es ++ e ∷ [])) (sym (replay_from-append start es (e ∷ []))) (step-once (replay es) es e all may))
     events legal

@@ -75,11 +75,11 @@ closes-by events legal = (over, back)
         let h = shown events legal in
         record {
           input = sym h.ended ∙ parts.0;
-          settled = λ n lt. subst (λ (o : Option Outcome). IsSome o) (h.outcomes n) (each-settled (replay events).builds parts.1 n (let same = h.number in omega (arith, same, lt)));
+          closed = λ n lt. subst (λ (o : Option Outcome). IsSome o) (h.outcomes n) (each-settled (replay events).builds parts.1 n (let same = h.number in omega (arith, same, lt)));
         }
 
     back : IsOver events → is_closing (replay events) ≡ true
     back g =
         let h = shown events legal in
         both (replay events).ended (list_all is_settled (replay events).builds) (h.ended ∙ g.input)
-        (all-settled (replay events).builds (λ n lt. subst (λ (o : Option Outcome). IsSome o) (sym (h.outcomes n)) (g.settled n (let same = h.number in omega (arith, same, lt)))))
+        (all-settled (replay events).builds (λ n lt. subst (λ (o : Option Outcome). IsSome o) (sym (h.outcomes n)) (g.closed n (let same = h.number in omega (arith, same, lt)))))

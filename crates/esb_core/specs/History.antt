@@ -1,23 +1,19 @@
 -- Lists of events: which are legal, and the direct answers to questions about them.
-use Rattle.std.specs.Prelude.{◌≡◌, ℕ, Bool, true, false, ◌&&◌, if◌then◌else◌, nat_eq, nat_lt, List, [], ◌∷◌, ◌++◌, length, drop, count_by, fold, codes, slice_index_or, Option, None, Some, Ok, Err}
+use Rattle.std.specs.Prelude.{◌≡◌, ℕ, Bool, true, false, ◌&&◌, if◌then◌else◌, nat_eq, List, [], ◌∷◌, ◌++◌, length, drop, count_by, fold, slice_index_or, Option, None, Some, is_some}
+use Rattle.std.specs.Map.{lookup}
 use Rattle.esb_wire.specs.declared.value.Packet.{Packet}
 use Rattle.esb_flags.specs.declared.options.Options.{Options}
-use Rattle.esb_flags.specs.declared.command.Command.{Command}
-use Rattle.esb_flags.specs.declared.command.Command.TheVariants as command
-use Rattle.esb_flags.specs.Fields.{Answer as Asked}
-use Rattle.esb_flags.specs.Command.{asked}
 use Rattle.esb_ask.specs.declared.question.Question.{Question}
 use Rattle.esb_ask.specs.declared.answer.Answer.{Answer}
 use Rattle.esb_ask.specs.declared.outcome.Outcome.{Outcome}
 use Rattle.esb_ask.specs.Table.{kept}
 use Rattle.esb_core.specs.declared.out.Out.{Out}
-use Rattle.esb_core.specs.declared.out.Out.TheVariants as out
-use Rattle.esb_core.specs.declared.out.Body.TheVariants as body
 use Rattle.esb_core.specs.declared.event.Event.{Event}
 use Rattle.esb_core.specs.declared.event.Event.TheVariants as event
 use Rattle.esb_core.specs.declared.event.Told.{Told}
 use Rattle.esb_core.specs.State.{State, start, no_options}
-use Rattle.esb_core.specs.Steps.{after, told_of, most_builds}
+use Rattle.esb_core.specs.Moves.{Move, make, remove, begin, join, owe, keep, close, take, Met, Standing, moves_of}
+use Rattle.esb_core.specs.Steps.{after, told_of, without, results}
 use Rattle.esb_core.specs.Allowed.{allowed}
 
 -- ---- legal lists
@@ -47,108 +43,192 @@ pub record StandsFor (state : State) (events : List Event) : Type 0 where
   pub legal : is_legal events ≡ true
   pub replayed : state ≡ replay events
 
--- ---- what each event gives, with the events before it
+-- ---- questions about moves
 
-abbrev pub gathered_from : {X : Type 0} → (List Event → Event → List X) → List Event → List Event → List X
+-- what each item gives, with the items before it
+abbrev pub gathered_from : {X Y : Type 0} → (List X → X → List Y) → List X → List X → List Y
 gathered_from f before [] = []
-gathered_from f before (e ∷ es) = f before e ++ gathered_from f (before ++ e ∷ []) es
+gathered_from f before (x ∷ xs) = f before x ++ gathered_from f (before ++ x ∷ []) xs
 
-abbrev pub gathered : {X : Type 0} → (List Event → Event → List X) → List Event → List X
-gathered f events = gathered_from f [] events
+abbrev pub gathered : {X Y : Type 0} → (List X → X → List Y) → List X → List Y
+gathered f xs = gathered_from f [] xs
 
--- ---- the builds of a list
+abbrev pub context_at : List (ℕ × Options) → Move → List (ℕ × Options)
+context_at contexts (make key options) = contexts ++ (key, options) ∷ []
+context_at contexts (remove key) = without key contexts
+context_at contexts m = contexts
 
--- a build as a request begins it
+-- the contexts that were made and not removed, by their keys
+abbrev pub contexts_in : List Move → List (ℕ × Options)
+contexts_in ms = fold context_at [] ms
+
+abbrev pub active_at : List (ℕ × ℕ) → Move → List (ℕ × ℕ)
+active_at active (begin n key options) = active ++ (key, n) ∷ []
+active_at active (close key n o) = without key active
+active_at active m = active
+
+-- the builds that began and weren't settled, by the keys of their contexts
+abbrev pub active_in : List Move → List (ℕ × ℕ)
+active_in ms = fold active_at [] ms
+
+-- a build as it begins
 pub record Begun : Type 0 where
   pub key : ℕ
   pub options : Options
-  -- the id of the request
-  pub waiter : ℕ
 
-abbrev pub begun_by : List Begun → ℕ → Asked Command → List Begun
-begun_by builds id (Err text) = builds
-begun_by builds id (Ok (command.Build key options)) = if nat_lt (length builds) most_builds then builds ++ record { key = key; options = options; waiter = id } ∷ [] else builds
+abbrev pub begun_at : List Begun → Move → List Begun
+begun_at builds (begin n key options) = builds ++ record { key = key; options = options } ∷ []
+begun_at builds m = builds
 
-abbrev pub begun_at : List Begun → Event → List Begun
-begun_at builds (event.Arrive packet) = if packet.request then begun_by builds packet.id (asked packet.value) else builds
-begun_at builds e = builds
-
--- the builds in the order of the requests that begin them
-abbrev pub builds : List Event → List Begun
-builds events = fold begun_at [] events
+-- the builds in the order in which they began
+abbrev pub builds_in : List Move → List Begun
+builds_in ms = fold begun_at [] ms
 
 abbrev pub no_begun : Begun
-no_begun = record { key = 0; options = no_options; waiter = 0 }
+no_begun = record { key = 0; options = no_options }
 
--- the build of a number
-abbrev pub build : List Event → ℕ → Begun
-build events n = slice_index_or (builds events) n no_begun
+abbrev pub waits_with : ℕ → Move → List ℕ → List ℕ
+waits_with n (join m id) ids = if nat_eq m n then id ∷ ids else ids
+waits_with n m ids = ids
 
--- ---- how a build ended
+-- the ids of the requests that wait for the build, in the order in which they came
+abbrev pub waiting_in : List Move → ℕ → List ℕ
+waiting_in [] n = []
+waiting_in (m ∷ ms) n = waits_with n m (waiting_in ms n)
 
-abbrev pub settled_by : ℕ → Event → Option Outcome
-settled_by n (event.Settle worker m o) = if nat_eq m n then Some o else None
-settled_by n e = None
+abbrev pub closed_by : ℕ → Move → Option Outcome
+closed_by n (close key m o) = if nat_eq m n then Some o else None
+closed_by n m = None
 
 abbrev pub or_later : Option Outcome → Option Outcome → Option Outcome
 or_later (Some o) later = Some o
 or_later None later = later
 
--- the outcome that the first event that settles the build gives
+-- the outcome with which the build was closed first
+abbrev pub outcome_in : List Move → ℕ → Option Outcome
+outcome_in [] n = None
+outcome_in (m ∷ ms) n = or_later (closed_by n m) (outcome_in ms n)
+
+abbrev pub answers_with : ℕ → Move → List (Question × Answer) → List (Question × Answer)
+answers_with n (keep m question answer) rest = if nat_eq m n then (question, answer) ∷ rest else rest
+answers_with n m rest = rest
+
+-- the answers that the build got, in order
+abbrev pub answers_in : List Move → ℕ → List (Question × Answer)
+answers_in [] n = []
+answers_in (m ∷ ms) n = answers_with n m (answers_in ms n)
+
+abbrev pub kept_pair : List (Question × Answer) → Question × Answer → List (Question × Answer)
+kept_pair table pair = kept table pair.0 pair.1
+
+-- the first answer to each of the build's questions, in order
+abbrev pub table_in : List Move → ℕ → List (Question × Answer)
+table_in ms n = fold kept_pair [] (answers_in ms n)
+
+-- what a move owes: a reply, or once a build is closed the results for the requests that wait for it
+abbrev pub owes : List Move → Move → List Out
+owes before (owe o) = o ∷ []
+owes before (close key n o) = results n (waiting_in before n)
+owes before m = []
+
+-- all that was ever owed, in order
+abbrev pub owed_in : List Move → List Out
+owed_in ms = gathered owes ms
+
+abbrev pub is_take : Move → Bool
+is_take take = true
+is_take m = false
+
+-- ---- the moves of a list
+
+-- how many requests wait for the build, where there is one
+abbrev pub crowd : List Move → Option ℕ → ℕ
+crowd ms None = 0
+crowd ms (Some n) = length (waiting_in ms n)
+
+-- what a request with this key finds after these moves
+abbrev pub met_in : List Move → ℕ → Met
+met_in ms key = record {
+  context = lookup (nat_eq key) (contexts_in ms);
+  active = lookup (nat_eq key) (active_in ms);
+  waiting = crowd ms (lookup (nat_eq key) (active_in ms));
+  contexts = length (contexts_in ms);
+  begun = length (builds_in ms);
+}
+
+-- what an event finds of a build after these moves
+abbrev pub standing_in : List Move → ℕ → Standing
+standing_in ms n = record {
+  key = (slice_index_or (builds_in ms) n no_begun).key;
+  stays = (slice_index_or (builds_in ms) n no_begun).options.context;
+  outcome = outcome_in ms n;
+}
+
+-- the moves that an event comes to after these
+abbrev pub moves_after : List Move → Event → List Move
+moves_after ms e = moves_of (met_in ms) (standing_in ms) e
+
+abbrev pub moves_from : List Move → List Event → List Move
+moves_from ms [] = ms
+moves_from ms (e ∷ es) = moves_from (ms ++ moves_after ms e) es
+
+-- all moves of a list of events, in order
+abbrev pub moves_in : List Event → List Move
+moves_in events = moves_from [] events
+
+-- ---- questions about a list of events
+
+-- the contexts by their keys
+abbrev pub contexts : List Event → List (ℕ × Options)
+contexts events = contexts_in (moves_in events)
+
+-- the options of the context with this key
+abbrev pub context : List Event → ℕ → Option Options
+context events key = lookup (nat_eq key) (contexts events)
+
+-- the builds that aren't settled, by the keys of their contexts
+abbrev pub active : List Event → List (ℕ × ℕ)
+active events = active_in (moves_in events)
+
+-- the build of the context with this key that isn't settled
+abbrev pub active_build : List Event → ℕ → Option ℕ
+active_build events key = lookup (nat_eq key) (active events)
+
+-- the builds in the order in which they began
+abbrev pub builds : List Event → List Begun
+builds events = builds_in (moves_in events)
+
+-- the build of a number
+abbrev pub build : List Event → ℕ → Begun
+build events n = slice_index_or (builds events) n no_begun
+
+-- the ids of the requests that wait for a build, in the order in which they came
+abbrev pub waiting : List Event → ℕ → List ℕ
+waiting events n = waiting_in (moves_in events) n
+
+-- how a build ended
 abbrev pub outcome : List Event → ℕ → Option Outcome
-outcome [] n = None
-outcome (e ∷ es) n = or_later (settled_by n e) (outcome es n)
+outcome events n = outcome_in (moves_in events) n
 
--- ---- what a build was told
+-- whether a build is closed: so far it is where it is settled
+abbrev pub closed : List Event → ℕ → Bool
+closed events n = is_some (outcome events n)
 
-abbrev pub answers_with : ℕ → Event → List (Question × Answer) → List (Question × Answer)
-answers_with n (event.Record worker m question answer) rest = if nat_eq m n then (question, answer) ∷ rest else rest
-answers_with n (event.Settle worker m o) rest = if nat_eq m n then [] else rest
-answers_with n e rest = rest
-
--- the answers that the build got before it was settled, in order
-abbrev pub answers : List Event → ℕ → List (Question × Answer)
-answers [] n = []
-answers (e ∷ es) n = answers_with n e (answers es n)
-
-abbrev pub keep : List (Question × Answer) → Question × Answer → List (Question × Answer)
-keep table pair = kept table pair.0 pair.1
-
--- the first answer to each of its questions, in order
+-- the first answers to a build's questions
 abbrev pub table : List Event → ℕ → List (Question × Answer)
-table events n = fold keep [] (answers events n)
-
--- ---- what is owed
-
-abbrev pub refused : ℕ → ℕ → Asked Command → List Out
-refused begun id (Err text) = out.Reply id (body.Error text) ∷ []
-refused begun id (Ok (command.Build key options)) = if nat_lt begun most_builds then [] else out.Reply id (body.Error (codes "Too many builds")) ∷ []
-
-abbrev pub closes : ℕ → ℕ → Option Outcome → List Out
-closes waiter n None = out.Reply waiter (body.Result n) ∷ []
-closes waiter n (Some first) = []
-
--- what an event owes: a refused request its reply, and the first settling of a build the reply to the request that began it
-abbrev pub owes : List Event → Event → List Out
-owes before (event.Arrive packet) = if packet.request then refused (length (builds before)) packet.id (asked packet.value) else []
-owes before (event.Settle worker n o) = closes (build before n).waiter n (outcome before n)
-owes before e = []
+table events n = table_in (moves_in events) n
 
 -- all that was ever owed, in order
 abbrev pub all_owed : List Event → List Out
-all_owed events = gathered owes events
-
-abbrev pub is_pop : Event → Bool
-is_pop event.Pop = true
-is_pop e = false
+all_owed events = owed_in (moves_in events)
 
 -- how many were taken off
-abbrev pub pops : List Event → ℕ
-pops events = count_by is_pop events
+abbrev pub takes : List Event → ℕ
+takes events = count_by is_take (moves_in events)
 
 -- what is owed and was not taken off
 abbrev pub owed : List Event → List Out
-owed events = drop (pops events) (all_owed events)
+owed events = drop (takes events) (all_owed events)
 
 -- ---- what came
 

@@ -1,30 +1,37 @@
 -- What the machine's tables stand for, and what they keep.
-use Rattle.std.specs.Prelude.{◌≡◌, ℕ, ◌<◌, ◌≤◌, true, sum_by, List, length, Option, None, Some}
+use Rattle.std.specs.Prelude.{◌≡◌, ℕ, ◌+◌, ◌<◌, ◌≤◌, true, sum_by, List, length, Option, None, Some}
 use Rattle.esb_ask.specs.declared.outcome.Outcome.{Outcome}
 use Rattle.esb_core.specs.State.{Building, State, build_at}
-use Rattle.esb_core.specs.Steps.{most_builds}
+use Rattle.esb_core.specs.Moves.{most_builds}
 use Rattle.esb_core.specs.Allowed.{is_settled}
+use Rattle.esb_core.specs.Order.{IsOrdered}
 use Rattle.esb_core.specs.declared.tables.Tables.{Tables}
 
 abbrev pub state_of : Tables → State
-state_of t = record { builds = t.builds.items; owed = t.replies.owed; ended = t.ended }
+state_of t = record { contexts = t.contexts.contexts; active = t.contexts.active; builds = t.builds.items; owed = t.replies.owed; ended = t.ended }
 
-abbrev pub load_of : Option Outcome → ℕ
-load_of None = 1
-load_of (Some o) = 0
+-- how many replies the close of a build owes
+abbrev pub load_of : ℕ → Option Outcome → ℕ
+load_of waiting None = waiting
+load_of waiting (Some o) = 0
 
 abbrev pub load : Building → ℕ
-load b = load_of b.outcome
+load b = load_of (length b.waiting) b.outcome
 
--- how many builds aren't settled
-abbrev pub active : List Building → ℕ
-active builds = sum_by load builds
+-- how many replies the builds that aren't settled owe once they are closed
+abbrev pub loads : List Building → ℕ
+loads builds = sum_by load builds
+
+-- the build keeps its key and its outcome, and at most so many more requests wait for it
+abbrev pub StaysBy : ℕ → Building → Building → Type 0
+StaysBy more old new = (new.key ≡ old.key) × (new.outcome ≡ old.outcome) × (length new.waiting ≤ length old.waiting + more)
 
 -- what holds between two steps
 pub record IsKept (t : Tables) : Type 0 where
-  -- there is room for the reply of each build that isn't settled
-  pub room : active t.builds.items ≤ t.replies.promised
+  -- there is room for each reply that the close of a build owes
+  pub room : loads t.builds.items ≤ t.replies.promised
   pub few : length t.builds.items ≤ most_builds
   -- the first builds, which are settled, are passed over
   pub passed : t.passed ≤ length t.builds.items
   pub over : (k : ℕ) → k < t.passed → is_settled (build_at t.builds.items k) ≡ true
+  pub ordered : IsOrdered (state_of t)

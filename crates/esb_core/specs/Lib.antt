@@ -1,7 +1,11 @@
 pub mod State
+pub mod Moves
 pub mod Steps
+pub mod Order
 pub mod Allowed
+pub mod Known
 pub mod History
 pub mod Queue
 pub mod Kept
 pub mod Laws
+pub mod Work

@@ -9,10 +9,11 @@ use Rattle.esb_core.specs.declared.out.Out.{Out}
 
 -- a build
 pub record Building : Type 0 where
+  -- the key of its context
   pub key : ℕ
   pub options : Options
-  -- the id of the request that waits for it
-  pub waiter : ℕ
+  -- the ids of the requests that wait for it, in the order in which they came
+  pub waiting : List ℕ
   -- the first answers to its questions
   pub table : List (Question × Answer)
   -- its tasks, in the order in which they were opened
@@ -26,15 +27,21 @@ pub record Building : Type 0 where
   -- how it was settled
   pub outcome : Option Outcome
 
--- the builds in the order in which they began, what is owed, and whether the input has ended
 pub record State : Type 0 where
+  -- the contexts by their keys, in the order in which they were made
+  pub contexts : List (ℕ × Options)
+  -- the builds that aren't settled, by the keys of their contexts
+  pub active : List (ℕ × ℕ)
+  -- the builds in the order in which they began
   pub builds : List Building
+  -- what is owed
   pub owed : List Out
+  -- whether the input has ended
   pub ended : Bool
 
 -- before any event
 abbrev pub start : State
-start = record { builds = []; owed = []; ended = false }
+start = record { contexts = []; active = []; builds = []; owed = []; ended = false }
 
 abbrev pub no_options : Options
 no_options = record {
@@ -48,7 +55,7 @@ no_options = record {
 
 -- what stands where there is no build
 abbrev pub no_build : Building
-no_build = record { key = 0; options = no_options; waiter = 0; table = []; tasks = []; claimed = 0; claims = []; linker = None; outcome = None }
+no_build = record { key = 0; options = no_options; waiting = []; table = []; tasks = []; claimed = 0; claims = []; linker = None; outcome = None }
 
 -- the build of a number
 abbrev pub build_at : List Building → ℕ → Building

@@ -1,12 +1,8 @@
--- One step of the machine: an equation for each event.
-use Rattle.std.specs.Prelude.{ℕ, zero, suc, ◌+◌, Bool, true, false, not, ◌&&◌, if◌then◌else◌, nat_eq, nat_lt, List, [], ◌∷◌, ◌++◌, length, filter, drop, slice_set, slice_get, codes, Option, None, Some, Ok, Err}
+-- One step of the machine: an equation for each kind of move, and for the work of each event.
+use Rattle.std.specs.Prelude.{ℕ, zero, suc, ◌+◌, Bool, true, not, ◌&&◌, if◌then◌else◌, nat_eq, List, [], ◌∷◌, ◌++◌, length, map, filter, drop, slice_set, slice_get, Option, None, Some}
+use Rattle.std.specs.Map.{lookup}
 use Rattle.std.specs.List.{list_any}
-use Rattle.esb_wire.specs.declared.value.Packet.{Packet}
 use Rattle.esb_flags.specs.declared.options.Options.{Options}
-use Rattle.esb_flags.specs.declared.command.Command.{Command}
-use Rattle.esb_flags.specs.declared.command.Command.TheVariants as command
-use Rattle.esb_flags.specs.Fields.{Answer as Asked}
-use Rattle.esb_flags.specs.Command.{asked}
 use Rattle.esb_ask.specs.declared.question.Question.{Question}
 use Rattle.esb_ask.specs.declared.answer.Answer.{Answer}
 use Rattle.esb_ask.specs.declared.task.Task.{Task}
@@ -20,7 +16,6 @@ use Rattle.esb_ask.specs.Table.{kept, kept_answer}
 use Rattle.esb_ask.specs.Tasks.{same_task}
 use Rattle.esb_core.specs.declared.out.Out.{Out}
 use Rattle.esb_core.specs.declared.out.Out.TheVariants as out
-use Rattle.esb_core.specs.declared.out.Body.{Body}
 use Rattle.esb_core.specs.declared.out.Body.TheVariants as body
 use Rattle.esb_core.specs.declared.event.Role.{Role}
 use Rattle.esb_core.specs.declared.event.Role.TheVariants as role
@@ -31,16 +26,9 @@ use Rattle.esb_core.specs.declared.event.Event.TheVariants as event
 use Rattle.esb_core.specs.declared.event.Told.{Told}
 use Rattle.esb_core.specs.declared.event.Told.TheVariants as told
 use Rattle.esb_core.specs.State.{Building, State, build_at}
+use Rattle.esb_core.specs.Moves.{Move, make, remove, begin, join, owe, keep, close, take, Met, Standing, moves_of}
 
--- the most builds of a session
-abbrev pub most_builds : ℕ
-most_builds = 1048576
-
--- ---- an arriving packet
-
--- one more reply is owed
-abbrev pub replied : State → ℕ → Body → State
-replied s id body = record s { owed = s.owed ++ out.Reply id body ∷ [] }
+-- ---- moves
 
 -- the tasks of so many entries, from this number on
 abbrev pub entry_tasks_from : ℕ → ℕ → List Task
@@ -51,11 +39,11 @@ abbrev pub entry_tasks : ℕ → List Task
 entry_tasks n = entry_tasks_from 0 n
 
 -- a build at its begin
-abbrev pub fresh : ℕ → ℕ → Options → Building
-fresh id key options = record {
+abbrev pub fresh : ℕ → Options → Building
+fresh key options = record {
   key = key;
   options = options;
-  waiter = id;
+  waiting = [];
   table = [];
   tasks = entry_tasks (length options.entries);
   claimed = 0;
@@ -64,21 +52,70 @@ fresh id key options = record {
   outcome = None;
 }
 
-abbrev pub begun_if : State → ℕ → ℕ → Options → Bool → State
-begun_if s id key options false = replied s id (body.Error (codes "Too many builds"))
-begun_if s id key options true = record s { builds = s.builds ++ fresh id key options ∷ [] }
+-- one more request waits for a build
+abbrev pub joined : Building → ℕ → Building
+joined b id = record b { waiting = b.waiting ++ id ∷ [] }
 
-abbrev pub after_command : State → ℕ → Asked Command → State
-after_command s id (Err text) = replied s id (body.Error text)
-after_command s id (Ok (command.Build key options)) = begun_if s id key options (nat_lt (length s.builds) most_builds)
+abbrev pub answered : Building → Question → Answer → Building
+answered b question answer = record b { table = kept b.table question answer }
 
--- a response answers nothing that is open, and changes nothing
-abbrev pub after_packet : State → Packet → Bool → State
-after_packet s packet false = s
-after_packet s packet true = after_command s packet.id (asked packet.value)
+abbrev pub ended_by : Building → Outcome → Building
+ended_by b o = record b { outcome = Some o }
 
-abbrev pub after_arrive : State → Packet → State
-after_arrive s packet = after_packet s packet packet.request
+-- the results that are owed to the requests with these ids
+abbrev pub results : ℕ → List ℕ → List Out
+results n ids = map (λ id. out.Reply id (body.Result n)) ids
+
+-- what has another key
+abbrev pub without : {X : Type 0} → ℕ → List (ℕ × X) → List (ℕ × X)
+without key entries = filter (λ entry. not (nat_eq key entry.0)) entries
+
+-- the state after a move
+abbrev pub moved : State → Move → State
+moved s (make key options) = record s { contexts = s.contexts ++ (key, options) ∷ [] }
+moved s (remove key) = record s { contexts = without key s.contexts }
+moved s (begin n key options) = record s { builds = s.builds ++ fresh key options ∷ []; active = s.active ++ (key, n) ∷ [] }
+moved s (join n id) = record s { builds = slice_set s.builds n (joined (build_at s.builds n) id) }
+moved s (owe o) = record s { owed = s.owed ++ o ∷ [] }
+moved s (keep n question answer) = record s { builds = slice_set s.builds n (answered (build_at s.builds n) question answer) }
+moved s (close key n o) = record s {
+  builds = slice_set s.builds n (ended_by (build_at s.builds n) o);
+  active = without key s.active;
+  owed = s.owed ++ results n (build_at s.builds n).waiting;
+}
+moved s take = record s { owed = drop 1 s.owed }
+
+abbrev pub all_moved : State → List Move → State
+all_moved s [] = s
+all_moved s (m ∷ ms) = all_moved (moved s m) ms
+
+-- ---- what an event finds
+
+abbrev pub waiting_for : List Building → Option ℕ → ℕ
+waiting_for builds None = 0
+waiting_for builds (Some n) = length (build_at builds n).waiting
+
+abbrev pub active_of : State → ℕ → Option ℕ
+active_of s key = lookup (nat_eq key) s.active
+
+-- what a request with this key finds
+abbrev pub met : State → ℕ → Met
+met s key = record {
+  context = lookup (nat_eq key) s.contexts;
+  active = active_of s key;
+  waiting = waiting_for s.builds (active_of s key);
+  contexts = length s.contexts;
+  begun = length s.builds;
+}
+
+abbrev pub standing_of : Building → Standing
+standing_of b = record { key = b.key; stays = b.options.context; outcome = b.outcome }
+
+abbrev pub standing : State → ℕ → Standing
+standing s n = standing_of (build_at s.builds n)
+
+abbrev pub moves : State → Event → List Move
+moves s e = moves_of (met s) (standing s) e
 
 -- ---- the work of a build
 
@@ -95,15 +132,6 @@ abbrev pub after_claim : State → Role → Job → State
 after_claim s (role.Worker worker) (job.Scan n t) = changed s n (task_claimed (build_at s.builds n) worker t)
 after_claim s (role.Worker worker) (job.Link n) = changed s n (link_claimed (build_at s.builds n) worker)
 after_claim s (role.Door door) j = s
-
--- the build once an answer came: the first is kept, and a settled build's table stays
-abbrev pub recorded : Building → Question → Answer → Option Outcome → Building
-recorded b question answer None = record b { table = kept b.table question answer }
-recorded b question answer (Some outcome) = b
-
-abbrev pub told_record : Building → Question → Answer → Option Outcome → Told
-told_record b question answer None = told.Kept (kept_answer b.table question answer)
-told_record b question answer (Some outcome) = told.Stale
 
 -- the task that a product names
 abbrev pub named_by : Resolved → Option Task
@@ -134,10 +162,6 @@ abbrev pub delivered : Building → ℕ → Task → Product → Option Outcome 
 delivered b worker t p None = record (unclaimed b worker t) { tasks = opened b.tasks (named p) }
 delivered b worker t p (Some outcome) = unclaimed b worker t
 
-abbrev pub told_stale : Option Outcome → Told
-told_stale None = told.Done
-told_stale (Some outcome) = told.Stale
-
 abbrev pub freed : ℕ → Option ℕ → Option ℕ
 freed worker None = None
 freed worker (Some linker) = if nat_eq linker worker then None else Some linker
@@ -146,33 +170,29 @@ freed worker (Some linker) = if nat_eq linker worker then None else Some linker
 abbrev pub released : Building → ℕ → Building
 released b worker = record b { claims = filter (λ claim. not (nat_eq claim.0 worker)) b.claims; linker = freed worker b.linker }
 
--- the first outcome stays
-abbrev pub settled : Building → ℕ → Outcome → Option Outcome → Building
-settled b worker outcome None = record (released b worker) { outcome = Some outcome }
-settled b worker outcome (Some first) = released b worker
-
-abbrev pub owed_by : List Out → ℕ → ℕ → Option Outcome → List Out
-owed_by owed waiter n None = owed ++ out.Reply waiter (body.Result n) ∷ []
-owed_by owed waiter n (Some first) = owed
-
-abbrev pub after_settle : State → ℕ → ℕ → Outcome → State
-after_settle s worker n outcome = record {
-  builds = slice_set s.builds n (settled (build_at s.builds n) worker outcome (build_at s.builds n).outcome);
-  owed = owed_by s.owed (build_at s.builds n).waiter n (build_at s.builds n).outcome;
-  ended = s.ended;
-}
+-- the state once the work of an event is taken note of
+abbrev pub worked : State → Event → State
+worked s (event.Claim r j) = after_claim s r j
+worked s (event.Deliver worker n t p) = changed s n (delivered (build_at s.builds n) worker t p (build_at s.builds n).outcome)
+worked s (event.Settle worker n o) = changed s n (released (build_at s.builds n) worker)
+worked s event.EndOfInput = record s { ended = true }
+worked s (event.Arrive packet) = s
+worked s (event.Record worker n question answer) = s
+worked s event.Pop = s
 
 -- ---- the whole step
 
 -- the state after an event
 abbrev pub after : State → Event → State
-after s (event.Arrive packet) = after_arrive s packet
-after s event.EndOfInput = record s { ended = true }
-after s (event.Claim r j) = after_claim s r j
-after s (event.Record worker n question answer) = changed s n (recorded (build_at s.builds n) question answer (build_at s.builds n).outcome)
-after s (event.Deliver worker n t p) = changed s n (delivered (build_at s.builds n) worker t p (build_at s.builds n).outcome)
-after s (event.Settle worker n outcome) = after_settle s worker n outcome
-after s event.Pop = record s { owed = drop 1 s.owed }
+after s e = worked (all_moved s (moves s e)) e
+
+abbrev pub told_record : Building → Question → Answer → Option Outcome → Told
+told_record b question answer None = told.Kept (kept_answer b.table question answer)
+told_record b question answer (Some outcome) = told.Stale
+
+abbrev pub told_stale : Option Outcome → Told
+told_stale None = told.Done
+told_stale (Some outcome) = told.Stale
 
 abbrev pub told_pop : Option Out → Told
 told_pop None = told.Done

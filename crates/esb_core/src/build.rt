@@ -1,12 +1,13 @@
 //! One build.
-ghost use Rattle.std.specs.Prelude.{◌≡◌, ◌+◌, ◌<◌, ◌≤◌, ◌^◌, ◌++◌, ◌∷◌, [], length, not, filter, nat_eq, vec_len, true, None, Some, IfOk, OnOk, OnErr};
+ghost use Rattle.std.specs.Prelude.{◌≡◌, ℕ, ◌+◌, ◌<◌, ◌≤◌, ◌^◌, ◌++◌, ◌∷◌, [], length, not, filter, nat_eq, vec_len, true, None, Some, IfOk, OnOk, OnErr};
 ghost use Rattle.std.specs.List.{list_any};
-ghost use Rattle.std.specs.Option.{option_copied};
+ghost use Rattle.std.specs.Option.{is_some, option_copied};
 ghost use Rattle.std.specs.Vec.{vec_capacity};
 ghost use Rattle.esb_ask.specs.Table.{fits};
 ghost use Rattle.esb_ask.specs.Tasks.{same_task};
-ghost use Rattle.esb_core.specs.Allowed.{has_claim, has_task, is_linker, is_settled, job_of, may_settle};
-ghost use Rattle.esb_core.specs.Steps.{delivered, entry_tasks, fresh, freed, is_claim, link_claimed, named, named_by, opened, recorded, released, settled, task_claimed, told_record, told_stale, unclaimed};
+ghost use Rattle.esb_core.specs.Allowed.{has_claim, has_task, is_linker, is_scanned, is_settled, job_of, may_settle, names_job};
+ghost use Rattle.esb_core.specs.Kept.{StaysBy};
+ghost use Rattle.esb_core.specs.Steps.{answered, delivered, ended_by, entry_tasks, fresh, freed, is_claim, joined, link_claimed, named, named_by, opened, released, standing_of, task_claimed, told_record, told_stale, unclaimed};
 
 use crate::event::{Job, Told};
 use crate::view::View;
@@ -21,7 +22,7 @@ use std::marker::Model;
 pub(crate) struct Build {
     key: u32,
     options: Shared<Options>,
-    waiter: u32,
+    waiting: Vec<u32>,
     table: Table,
     tasks: Vec<Task>,
     claimed: usize,
@@ -39,7 +40,7 @@ impl Model for Build {
     ghost view = { λ b. record {
       key = b.key;
       options = b.options;
-      waiter = b.waiter;
+      waiting = b.waiting.items;
       table = b.table;
       tasks = b.tasks.items;
       claimed = b.claimed;
@@ -52,13 +53,13 @@ impl Model for Build {
     ghost invariant = { λ b. (vec_len b.claims ≤ b.claimed) × (b.claimed ≤ vec_len b.tasks) × (vec_len b.tasks ≤ vec_capacity b.claims) };
 }
 
-/// The tasks of so many entries.
+/// The tasks of so many entries, which are numbered with 32 bits.
 fn entry_tasks(alloc: Global, entries: usize) -> Result<Vec<Task>, Memory>
-    requires { entries < 2 ^ 32 }
     ensures { IfOk result (λ tasks. tasks.items ≡ entry_tasks entries) }
 {
+    let count = u32::try_from(entries).map_err(|_| Memory)?;
     let mut tasks = Vec::with_capacity(alloc, entries)?;
-    for number in 0..entries as u32 {
+    for number in 0..count {
         tasks.push(Task::Entry(number))?;
     }
     Ok(tasks)
@@ -136,22 +137,16 @@ fn freed(linker: Option<u32>, worker: u32) -> Option<u32>
 }
 
 impl Build {
-    /// A build of these options, which the request with this id waits for.
-    pub(crate) fn new(
-        alloc: Global,
-        waiter: u32,
-        key: u32,
-        options: Shared<Options>,
-    ) -> Result<Build, Memory>
-        requires { length options.entries < 2 ^ 32 }
-        ensures { IfOk result (λ b. b ≡ fresh waiter key options) }
+    /// A build of these options, in the context with this key.
+    pub(crate) fn new(alloc: Global, key: u32, options: Shared<Options>) -> Result<Build, Memory>
+        ensures { IfOk result (λ b. b ≡ fresh key options) }
     {
         let tasks = entry_tasks(alloc, options.get().entries.len())?;
         let claims = Vec::with_capacity(alloc, tasks.len())?;
         Ok(Build {
             key,
             options,
-            waiter,
+            waiting: Vec::new(alloc),
             table: Table::new(alloc),
             tasks,
             claimed: 0,
@@ -173,10 +168,21 @@ impl Build {
         &self.options
     }
 
-    pub(crate) fn waiter(&self) -> u32
-        ensures { result ≡ self.now.waiter }
+    /// The ids of the requests that wait for this build.
+    pub(crate) fn waiting(&self) -> &[u32]
+        ensures { result.now ≡ self.now.waiting }
     {
-        self.waiter
+        &self.waiting
+    }
+
+    /// One more request waits for this build.
+    pub(crate) fn join(&mut self, id: u32) -> Result<(), Memory>
+        ensures ok { OnOk result (self.new ≡ joined self.old id) }
+        ensures err { OnErr result (self.new ≡ self.old) }
+        ensures stays { StaysBy 1 self.old self.new }
+    {
+        self.waiting.push(id)?;
+        Ok(())
     }
 
     pub(crate) fn table(&self) -> &Table
@@ -209,10 +215,36 @@ impl Build {
                 build,
                 task: task.share()?,
             })),
-            None if self.claims.is_empty() && self.linker.is_none() => {
-                Ok(Some(Job::Link { build }))
-            }
+            None if self.is_scanned() => Ok(Some(Job::Link { build })),
             None => Ok(None),
+        }
+    }
+
+    /// Whether no task is claimed, and neither is the link.
+    fn is_scanned(&self) -> bool
+        ensures { result ≡ is_scanned self.now }
+    {
+        self.claims.is_empty() && self.linker.is_none()
+    }
+
+    /// Whether this build has an open job.
+    pub(crate) fn has_job(&self) -> bool
+        ensures { (number : ℕ) → result ≡ is_some (job_of number self.now) }
+    {
+        !self.is_settled() && (self.claimed < self.tasks.len() || self.is_scanned())
+    }
+
+    /// Whether a job is the first open one of this build, whose number is told. It takes no memory.
+    pub(crate) fn is_job(&self, build: u32, job: &Job) -> bool
+        ensures { result ≡ names_job (job_of build self.now) job.now }
+    {
+        if self.outcome.is_some() {
+            return false;
+        }
+        match (self.tasks.get(self.claimed), job) {
+            (Some(task), Job::Scan { build: n, task: t }) => build == *n && task.is(t),
+            (None, Job::Link { build: n }) => self.is_scanned() && build == *n,
+            _ => false,
         }
     }
 
@@ -275,7 +307,8 @@ impl Build {
     /// The first open task goes to a worker. It takes no memory.
     pub(crate) fn claim_task(&mut self, worker: u32, task: Task)
         requires { self.old.claimed < length self.old.tasks }
-        ensures { self.new ≡ task_claimed self.old worker task }
+        ensures after { self.new ≡ task_claimed self.old worker task }
+        ensures stays { StaysBy 0 self.old self.new }
     {
         self.claims.push_reserved((worker, task));
         self.claimed += 1;
@@ -283,21 +316,20 @@ impl Build {
 
     /// The link goes to a worker.
     pub(crate) fn claim_link(&mut self, worker: u32)
-        ensures { self.new ≡ link_claimed self.old worker }
+        ensures after { self.new ≡ link_claimed self.old worker }
+        ensures stays { StaysBy 0 self.old self.new }
     {
         self.linker = Some(worker);
     }
 
-    /// Keeps the first answer to a question, unless the build is settled.
+    /// Keeps the first answer to a question of a build that isn't settled.
     pub(crate) fn record(&mut self, question: Question, answer: Answer) -> Result<Told, Memory>
         requires { fits question answer ≡ true }
-        ensures told { IfOk result (λ t. t ≡ told_record self.old question answer self.old.outcome) }
-        ensures ok { OnOk result (self.new ≡ recorded self.old question answer self.old.outcome) }
+        ensures told { IfOk result (λ t. t ≡ told_record self.old question answer None) }
+        ensures ok { OnOk result (self.new ≡ answered self.old question answer) }
         ensures err { OnErr result (self.new ≡ self.old) }
+        ensures stays { StaysBy 0 self.old self.new }
     {
-        if self.outcome.is_some() {
-            return Ok(Told::Stale);
-        }
         Ok(Told::Kept(self.table.put(question, answer)?))
     }
 
@@ -343,6 +375,7 @@ impl Build {
         ensures told { IfOk result (λ t. t ≡ told_stale self.old.outcome) }
         ensures ok { OnOk result (self.new ≡ delivered self.old worker task.now product.now self.old.outcome) }
         ensures err { OnErr result (self.new ≡ self.old) }
+        ensures stays { StaysBy 0 self.old self.new }
     {
         if self.is_settled() {
             self.unclaim(worker, task);
@@ -353,24 +386,19 @@ impl Build {
         Ok(Told::Done)
     }
 
-    /// A worker's claims end.
-    fn release(&mut self, worker: u32)
-        ensures { self.new ≡ released self.old worker }
+    /// A worker's claims end. It takes no memory.
+    pub(crate) fn release(&mut self, worker: u32)
+        ensures after { self.new ≡ released self.old worker }
+        ensures stays { StaysBy 0 self.old self.new }
     {
         end_claims(&mut self.claims, worker);
         self.linker = freed(self.linker, worker);
     }
 
-    /// Ends the build, if it isn't settled, and the worker's claims. It takes no memory.
-    pub(crate) fn settle(&mut self, worker: u32, outcome: Outcome) -> Told
-        ensures told { result ≡ told_stale self.old.outcome }
-        ensures after { self.new ≡ settled self.old worker outcome self.old.outcome }
+    /// Ends the build. It takes no memory.
+    pub(crate) fn end(&mut self, outcome: Outcome)
+        ensures { self.new ≡ ended_by self.old outcome }
     {
-        self.release(worker);
-        if self.is_settled() {
-            return Told::Stale;
-        }
         self.outcome = Some(outcome);
-        Told::Done
     }
 }

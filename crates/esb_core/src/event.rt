@@ -5,7 +5,7 @@ use esb_ask::{Answer, Outcome, Product, Question, Task};
 use esb_base::{List, Memory};
 use esb_wire::Packet;
 
-/// Who does the work.
+/// Who does the work. Workers and doors have numbers of their own, from 0.
 #[derive(Clone, Copy, Debug, PartialEq, Eq)]
 pub enum Role {
     /// Scans, links and writes.
@@ -14,7 +14,7 @@ pub enum Role {
     Door(u32),
 }
 
-/// A piece of work.
+/// A piece of work, of the build with this number.
 #[derive(Drop)]
 pub enum Job {
     /// A task of a build's scan.
@@ -26,6 +26,7 @@ pub enum Job {
 /// The next work of a role.
 #[derive(Drop)]
 pub enum Claimed {
+    /// The first job that is open to it.
     Job(Job),
     /// No job is open.
     Idle,
@@ -33,7 +34,7 @@ pub enum Claimed {
     Closing,
 }
 
-/// One step of a session.
+/// One step of a session. Builds have their numbers in the order in which they begin, from 0.
 #[derive(Drop)]
 pub enum Event {
     /// A packet of the client.
@@ -72,16 +73,18 @@ pub enum Event {
 /// The events of a session, in order.
 #[derive(Drop)]
 pub struct Journal {
+    /// From the first to the last.
     pub events: List<Event>,
 }
 
 /// What a step tells.
 #[derive(Drop)]
 pub enum Told {
+    /// That the event was taken note of.
     Done,
     /// The answer that is kept: the first to the question.
     Kept(Answer),
-    /// The build is settled, and nothing was kept.
+    /// That the build was settled before: nothing was kept, and a claim that the event gives back has ended.
     Stale,
     /// What was owed first.
     Owed(Out),

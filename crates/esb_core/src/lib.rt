@@ -3,6 +3,7 @@
 
 mod always;
 mod build;
+mod contexts;
 mod event;
 mod machine;
 mod out;
@@ -12,8 +13,9 @@ mod tables;
 mod view;
 
 pub use always::{
-    answers_stay, builds_stay, events_that_may_come, machines_show_their_history, outcomes_stay,
-    replies_are_one, settled_tables_stay, told_is_the_history, work_is_claimed_once,
+    answers_stay, builds_stay, contexts_are_known, events_that_may_come, jobs_are_in_order,
+    limits_hold, machines_show_their_history, outcomes_stay, replies_are_one, settled_tables_stay,
+    told_is_the_history, work_is_claimed_once,
 };
 pub use event::{Claimed, Event, Job, Journal, Role, Told};
 pub use machine::Machine;

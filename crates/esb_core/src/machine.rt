@@ -17,8 +17,8 @@ use esb_wire::Packet;
 use std::alloc::Global;
 use std::marker::Model;
 
-/// The machine of a session. Contracts see its builds, what is owed and whether the input has ended, and the lists of events
-/// that it stands for.
+/// The machine of a session. Contracts see its contexts, which of its builds are active, all its builds, what is owed and
+/// whether the input has ended, and the lists of events that it stands for.
 #[derive(Drop)]
 pub struct Machine {
     tables: Tables,
@@ -37,19 +37,22 @@ impl Model for Machine {
 }
 
 impl Machine {
-    /// A machine before any event.
-    pub fn new(alloc: Global) -> Machine
-        ensures state { result ≡ start }
-        ensures stands { StandsFor result [] }
+    /// A machine before any event, with room for its first reply, or `Memory`.
+    ///
+    /// `serial` says that the session has no threads, and `doors` how many doors serve. They decide which requests are available,
+    /// once a session can watch and serve. A build is available in each session, so they have no effect yet.
+    pub fn new(alloc: Global, _serial: bool, _doors: u32) -> Result<Machine, Memory>
+        ensures state { IfOk result (λ m. m ≡ start) }
+        ensures stands { IfOk result (λ m. StandsFor m []) }
     {
-        Machine {
-            tables: Tables::new(alloc),
-        }
+        Ok(Machine {
+            tables: Tables::new(alloc)?,
+        })
     }
 
-    /// Whether an event may come now.
-    pub fn allowed(&self, event: &Event) -> Result<bool, Memory>
-        ensures { IfOk result (λ answer. answer ≡ allowed self.now event.now) }
+    /// Whether an event may come now. It takes no memory.
+    pub fn allowed(&self, event: &Event) -> bool
+        ensures { result ≡ allowed self.now event.now }
     {
         self.tables.allows(event)
     }

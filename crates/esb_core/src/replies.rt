@@ -1,8 +1,9 @@
 //! What is owed, and room for what is promised.
-ghost use Rattle.std.specs.Prelude.{◌≡◌, ◌+◌, ◌-◌, ◌<◌, ◌++◌, ◌==◌, [], ◌∷◌, length, slice_get, drop, OnOk, OnErr};
+ghost use Rattle.std.specs.Prelude.{◌≡◌, ◌+◌, ◌-◌, ◌<◌, ◌≤◌, ◌++◌, ◌==◌, [], ◌∷◌, length, slice_get, drop, IfOk, OnOk, OnErr};
 ghost use Rattle.esb_core.specs.Queue.{Queue};
+ghost use Rattle.esb_core.specs.Steps.{results};
 
-use crate::out::Out;
+use crate::out::{Body, Out};
 use esb_base::Memory;
 use std::alloc::Global;
 use std::collections::VecDeque;
@@ -28,13 +29,14 @@ impl Model for Replies {
 }
 
 impl Replies {
-    pub(crate) fn new(alloc: Global) -> Replies
-        ensures { result ≡ record { owed = []; promised = 0 } }
+    /// Nothing is owed yet. There is room for the first reply, which nothing is promised of.
+    pub(crate) fn new(alloc: Global) -> Result<Replies, Memory>
+        ensures { IfOk result (λ r. r ≡ record { owed = []; promised = 0 }) }
     {
-        Replies {
-            owed: VecDeque::new(alloc),
+        Ok(Replies {
+            owed: VecDeque::with_capacity(alloc, 1)?,
             promised: 0,
-        }
+        })
     }
 
     /// Makes room for one more.
@@ -55,6 +57,19 @@ impl Replies {
     {
         self.owed.push_back_reserved(out);
         self.promised -= 1;
+    }
+
+    /// Owes the results of a build that were promised to the requests with these ids.
+    pub(crate) fn owe_results(&mut self, build: u32, ids: &[u32])
+        requires { length ids.now ≤ self.old.promised }
+        ensures { self.new ≡ record { owed = self.old.owed ++ results build ids.now; promised = self.old.promised - length ids.now } }
+    {
+        for number in 0..ids.len() {
+            self.owe(Out::Reply {
+                id: ids[number],
+                body: Body::Result { build },
+            });
+        }
     }
 
     /// Takes the first that is owed.

@@ -7,6 +7,7 @@ use esb_flags::Options;
 pub struct View {
     /// The context's key.
     pub key: u32,
+    /// What the context was made with.
     pub options: Shared<Options>,
     /// How it ended, once it is settled.
     pub outcome: Option<Outcome>,

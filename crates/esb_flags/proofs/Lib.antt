@@ -1,4 +1,8 @@
-pub mod Words
+pub mod Cuts
 pub mod Seen
 pub mod Accepts
 pub mod Named
+pub mod Says
+pub mod Repeats
+pub mod Taken
+pub mod Asked

@@ -4,7 +4,9 @@ use Rattle.std.specs.Prelude.{codes}
 use Rattle.esb_wire.specs.declared.value.Value.{Value, out-Value}
 use Rattle.esb_wire.specs.declared.value.Value.TheOpen.{Value-F}
 use Rattle.esb_wire.specs.Field.{field}
-use Rattle.esb_flags.specs.Command.{asked, node_asked, command_of, build_of}
+use Rattle.esb_flags.specs.declared.command.Command.{Command}
+use Rattle.esb_flags.specs.declared.command.Command.TheVariants as command
+use Rattle.esb_flags.specs.Command.{asked, node_asked, command_of, keyed, serve_of, build_of}
 use Rattle.esb_flags.specs.Fields.{Answer, ◌>>=◌, needed, allowed, fields_of}
 use Rattle.esb_flags.specs.Named.{NodeIsMap, IsMap, SameFields}
 use Rattle.esb_flags.specs.Shapes.{Shape, number, boolean, text, list_of, required, optional, entry, plugins}
@@ -38,9 +40,24 @@ build-same : (one other : Value) → SameFields one other → build_of one ≡ b
 unfolding build_of
 build-same one other h = rw (fields-same one other h) refl
 
+keyed-same : (one other : Value) → SameFields one other → (command_with : ℕ → Command) → keyed command_with one ≡ keyed command_with other
+keyed-same one other h command_with = rw (needed-same (codes "key") number one other h.1.0) refl
+
+serve-same : (one other : Value) → SameFields one other → serve_of one ≡ serve_of other
+unfolding serve_of
+serve-same one other h = rw (needed-same (codes "key") number one other h.1.0, needed-same (codes "port") number one other h.1.1.1.1.1.1.1.1.0) refl
+
 command-same : (one other : Value) → SameFields one other → (name : List ℕ) → command_of name one ≡ command_of name other
 unfolding command_of
-command-same one other h name = rw (build-same one other h) refl
+command-same one other h name =
+    rw (
+      build-same one other h,
+      keyed-same one other h command.Rebuild,
+      keyed-same one other h command.Cancel,
+      keyed-same one other h command.Dispose,
+      keyed-same one other h command.Watch,
+      serve-same one other h,
+    ) refl
 
 node-same : (one other : Value) (a b : Value-F Value) → NodeIsMap a → NodeIsMap b → SameFields one other → node_asked one a ≡ node_asked other b
 node-same one other (Value-F.Map ps) (Value-F.Map qs) p q h =

@@ -2,9 +2,12 @@
 use Rattle.std.specs.Prelude.{◌≡◌, ℕ, List, ◌++◌, codes, Option, Some, None, Result, Ok, Err}
 use Rattle.esb_flags.specs.declared.command.CommandFault.{CommandFault}
 use Rattle.esb_flags.specs.declared.command.CommandFault.TheVariants as faults
+use Rattle.esb_flags.specs.declared.fault.FlagFault.{FlagFault}
+use Rattle.esb_flags.specs.declared.fault.FlagFault.TheVariants as flag_faults
 use Rattle.esb_flags.specs.declared.shapes.Misfit.{Misfit}
 use Rattle.esb_flags.specs.declared.shapes.Misfit.TheVariants as misfit
 use Rattle.esb_flags.specs.Fields.{Answer}
+use Rattle.esb_flags.specs.Flags.{word_at}
 
 abbrev pub Misfits : {Y : Type 0} → Misfit → Option Y → Type 0
 Misfits misfit.Shape read = read ≡ None
@@ -32,3 +35,11 @@ IsRefusal chars faults.Memory = Unit {0}
 abbrev pub IsUnfit : List ℕ → Misfit → CommandFault → Type 0
 IsUnfit name misfit.Shape fault = IsRefusal (codes "Missing field: " ++ name) fault
 IsUnfit name misfit.Memory fault = fault ≡ faults.Memory
+
+-- the refusal for a fault of these flags
+abbrev pub IsFlagRefusal : List (List ℕ) → FlagFault → CommandFault → Type 0
+IsFlagRefusal words (flag_faults.BadFlag place) fault = IsRefusal (codes "Bad flag: " ++ word_at words place) fault
+IsFlagRefusal words (flag_faults.Repeated place) fault = IsRefusal (codes "Repeated flag: " ++ word_at words place) fault
+IsFlagRefusal words flag_faults.NeedsOutdir fault = IsRefusal (codes "Must use outdir") fault
+IsFlagRefusal words flag_faults.SplittingNeedsEsm fault = IsRefusal (codes "Splitting needs esm") fault
+IsFlagRefusal words flag_faults.Memory fault = fault ≡ faults.Memory

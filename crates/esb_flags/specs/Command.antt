@@ -1,6 +1,6 @@
 -- What a request asks for, or the text of its first refusal.
-use Rattle.std.specs.Prelude.{ℕ, if◌then◌else◌, nat_le, List, ◌++◌, length, codes, Option, Some, None, Ok, Err}
-use Rattle.std.specs.List.{list_any}
+use Rattle.std.specs.Prelude.{ℕ, Bool, not, if◌then◌else◌, nat_le, nat_eq, List, ◌++◌, length, codes, Option, Some, None, Ok, Err}
+use Rattle.std.specs.List.{starts_with}
 use Rattle.std.specs.Str.{bytes_eq}
 use Rattle.esb_base.specs.declared.flags.Flags.{Flags}
 use Rattle.esb_wire.specs.declared.value.Value.{Value, out-Value}
@@ -8,35 +8,61 @@ use Rattle.esb_wire.specs.declared.value.Value.TheOpen.{Value-F}
 use Rattle.esb_flags.specs.declared.command.Command.{Command}
 use Rattle.esb_flags.specs.declared.command.Command.TheVariants as command
 use Rattle.esb_flags.specs.declared.fields.Fields.{Fields}
-use Rattle.esb_flags.specs.Shapes.{text}
+use Rattle.esb_flags.specs.declared.options.Options.{Options}
+use Rattle.esb_flags.specs.Shapes.{number, text}
 use Rattle.esb_flags.specs.Fields.{Answer, ◌>>=◌, needed, fields_of}
-use Rattle.esb_flags.specs.Unbuilt.{unbuilt_commands, flags_of}
+use Rattle.esb_flags.specs.Unbuilt.{flags_of}
 
 abbrev pub most_entries : ℕ
 most_entries = 1024
 
-abbrev pub built_of : Fields → Flags → Command
-built_of fields flags = command.Build fields.key (record {
+abbrev pub options_of : Fields → Flags → Options
+options_of fields flags = record {
   cwd = fields.cwd;
   entries = fields.entries;
   write = fields.write;
   context = fields.context;
   plugins = fields.plugins;
   flags = flags;
-})
+}
+
+abbrev pub built_of : Fields → Flags → Command
+built_of fields flags = command.Build fields.key (options_of fields flags)
+
+abbrev pub is_absolute : List ℕ → Bool
+is_absolute path = starts_with nat_eq path (codes "/")
 
 abbrev pub if_built : Fields → Option Flags → Answer Command
 if_built fields None = Err (codes "Not built yet")
-if_built fields (Some flags) = if nat_le (length fields.entries) most_entries then Ok (built_of fields flags) else Err (codes "Too many entries")
+if_built fields (Some flags) = if not (is_absolute fields.cwd) then Err (codes "Bad working folder")
+    else (if nat_le (length fields.entries) most_entries then Ok (built_of fields flags) else Err (codes "Too many entries"))
 
 unfoldable pub build_of : Value → Answer Command
 build_of request = do
   fields ← fields_of request
   if_built fields (flags_of fields)
 
+-- a command that has a key alone
+abbrev pub keyed : (ℕ → Command) → Value → Answer Command
+keyed command_with request = do
+  key ← needed (codes "key") number request
+  Ok (command_with key)
+
+unfoldable pub serve_of : Value → Answer Command
+serve_of request = do
+  key ← needed (codes "key") number request
+  port ← needed (codes "port") number request
+  Ok (command.Serve key port)
+
 unfoldable pub command_of : List ℕ → Value → Answer Command
 command_of name request = if bytes_eq name (codes "build") then build_of request
-    else (if list_any (bytes_eq name) unbuilt_commands then Err (codes "Not built yet") else Err (codes "Unknown command: " ++ name))
+    else (if bytes_eq name (codes "rebuild") then keyed command.Rebuild request
+    else (if bytes_eq name (codes "cancel") then keyed command.Cancel request
+    else (if bytes_eq name (codes "dispose") then keyed command.Dispose request
+    else (if bytes_eq name (codes "watch") then keyed command.Watch request
+    else (if bytes_eq name (codes "serve") then serve_of request
+    else (if bytes_eq name (codes "ping") then Ok command.Ping
+    else Err (codes "Unknown command: " ++ name)))))))
 
 abbrev pub node_asked : Value → Value-F Value → Answer Command
 node_asked request (Value-F.Map pairs) = do

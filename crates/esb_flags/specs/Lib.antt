@@ -1,7 +1,10 @@
+pub mod Words
 pub mod Shapes
 pub mod Fields
+pub mod Flags
 pub mod Unbuilt
 pub mod Command
 pub mod Answers
 pub mod Accepted
 pub mod Named
+pub mod Said

@@ -13,7 +13,7 @@ abbrev pub IsMap : Value → Type 0
 IsMap value = NodeIsMap (out-Value value)
 
 abbrev pub request_fields : List (List ℕ)
-request_fields = codes "command" ∷ codes "key" ∷ codes "entries" ∷ codes "flags" ∷ codes "absWorkingDir" ∷ codes "write" ∷ codes "context" ∷ codes "plugins" ∷ []
+request_fields = codes "command" ∷ codes "key" ∷ codes "entries" ∷ codes "flags" ∷ codes "absWorkingDir" ∷ codes "write" ∷ codes "context" ∷ codes "plugins" ∷ codes "port" ∷ []
 
 -- Two requests that have the same in these fields, in whatever order and beside whatever others.
 abbrev pub SameFields : Value → Value → Type 0

@@ -1,38 +1,12 @@
--- Which commands and builds this version takes: files of one folder, copied into another. All others are refused as not built yet.
-use Rattle.std.specs.Prelude.{ℕ, ◌-◌, ◌==◌, Bool, true, false, not, ◌&&◌, if◌then◌else◌, nat_eq, List, [], ◌∷◌, length, map, take, drop, codes, Option, Some, None}
-use Rattle.std.specs.List.{list_all, list_any, slice_split, starts_with, ends_with}
+-- Which builds this version takes: files of one folder, copied into another. All others are refused as not built yet.
+use Rattle.std.specs.Prelude.{ℕ, ◌==◌, Bool, true, false, not, ◌&&◌, if◌then◌else◌, nat_eq, List, [], ◌∷◌, length, map, codes, Option, Some, None}
+use Rattle.std.specs.List.{list_all, list_any, slice_split, ends_with}
 use Rattle.std.specs.Str.{bytes_eq}
 use Rattle.esb_base.specs.declared.flags.Flags.{Flags}
 use Rattle.esb_base.specs.declared.flags.Loader.TheVariants as loader
 use Rattle.esb_flags.specs.declared.fields.Fields.{Fields}
 use Rattle.esb_flags.specs.Shapes.{◌>>=◌}
-
--- the commands that are known beside `build`
-abbrev pub unbuilt_commands : List (List ℕ)
-unbuilt_commands = codes "rebuild" ∷ codes "cancel" ∷ codes "dispose" ∷ codes "watch" ∷ codes "serve" ∷ codes "ping" ∷ []
-
-abbrev pub slash : ℕ
-slash = 47
-
-abbrev pub dot : ℕ
-dot = 46
-
-abbrev pub holds : ℕ → List ℕ → Bool
-holds byte chars = list_any (λ b. b == byte) chars
-
--- not empty, without a dot and without a slash
-abbrev pub is_word : List ℕ → Bool
-is_word chars = not (length chars == 0) && not (holds dot chars) && not (holds slash chars)
-
-abbrev pub if_word : List ℕ → Option (List ℕ)
-if_word chars = if is_word chars then Some chars else None
-
--- what stands behind the front, and before the back
-unfoldable pub behind : List ℕ → List ℕ → Option (List ℕ)
-behind front chars = if starts_with nat_eq chars front then Some (drop (length front) chars) else None
-
-unfoldable pub before : List ℕ → List ℕ → Option (List ℕ)
-before back chars = if ends_with nat_eq chars back then Some (take (length chars - length back) chars) else None
+use Rattle.esb_flags.specs.Words.{slash, dot, holds, if_word, behind, before}
 
 -- X of `--outdir=X`
 unfoldable pub outdir_of : List ℕ → Option (List ℕ)
@@ -71,7 +45,7 @@ all_differ (chars ∷ others) = not (list_any (bytes_eq chars) others) && all_di
 
 -- A path that ends with a dot and the extension, which has no dot, is not empty and not one or two dots.
 unfoldable pub is_copying : List ℕ → Fields → Bool
-is_copying extension fields = not fields.write && not fields.context && (length fields.plugins == 0) && is_folder fields.cwd
+is_copying extension fields = not fields.write && (length fields.plugins == 0) && is_folder fields.cwd
     && list_all (is_copied (dot ∷ extension)) fields.entries && all_differ (map (λ entry. entry.1) fields.entries)
 
 abbrev pub copy_flags : List ℕ → List ℕ → Flags

@@ -5,15 +5,20 @@ use esb_base::{Flags, List, Text};
 pub struct Filter {
     /// The client's number of the callback.
     pub id: u32,
+    /// Of the files or specifiers that are asked about.
     pub namespace: Text,
+    /// With which their paths or specifiers end.
     pub suffix: Text,
 }
 
 /// A plug-in of a build.
 #[derive(Drop)]
 pub struct Plugin {
+    /// By which requests and messages call it.
     pub name: Text,
+    /// Which specifiers it is asked to resolve.
     pub on_resolve: List<Filter>,
+    /// Which files it is asked to load.
     pub on_load: List<Filter>,
     /// Whether it is asked at the end of each build.
     pub on_end: bool,
@@ -30,6 +35,8 @@ pub struct Options {
     pub write: bool,
     /// Whether the request makes a context. Else it begins a build at once.
     pub context: bool,
+    /// In the order in which they are asked.
     pub plugins: List<Plugin>,
+    /// What the flags say.
     pub flags: Flags,
 }

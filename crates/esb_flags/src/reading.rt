@@ -1,47 +1,20 @@
-ghost use Rattle.std.specs.Prelude.{◌≡◌, ℕ, List, ◌++◌, Ok, Err, IfOk};
-ghost use Rattle.esb_flags.specs.Answers.{Answers, IsRefusal, IsUnfit};
-ghost use Rattle.esb_flags.specs.Command.{asked, build_of, command_of};
+ghost use Rattle.std.specs.Prelude.{◌≡◌, ℕ, List, Ok, Err, IfOk};
+ghost use Rattle.esb_flags.specs.Answers.{Answers, IsUnfit};
+ghost use Rattle.esb_flags.specs.Command.{asked, build_of, command_of, is_absolute, serve_of};
 ghost use Rattle.esb_flags.specs.Fields.{needed, allowed, fields_of};
 
 use crate::command::{Command, CommandFault};
 use crate::fields::Fields;
 use crate::options::Options;
+use crate::refusal::{refused, refused_for};
 use crate::shapes::{Misfit, Shaped, optional, required};
-use crate::unbuilt::{flags_of, is_unbuilt};
-use esb_base::{List, Memory, Text};
+use crate::unbuilt::flags_of;
+use esb_base::{List, Text};
 use esb_wire::Value;
 use std::alloc::Global;
 
 /// The most entries of a build.
 const MOST_ENTRIES: usize = 1_024;
-
-/// The refusal with this text.
-fn refused(alloc: Global, text: &str) -> CommandFault
-    ensures { IsRefusal text.now result }
-{
-    match Text::of(alloc, text) {
-        Ok(text) => CommandFault::Refused(text),
-        Err(Memory) => CommandFault::Memory,
-    }
-}
-
-fn joined(alloc: Global, reason: &str, subject: &str) -> Result<Text, Memory>
-    ensures { IfOk result (λ text. text ≡ reason.now ++ subject.now) }
-{
-    let mut text = String::from_str(alloc, reason)?;
-    text.push_str(subject)?;
-    Text::of(alloc, text.as_str())
-}
-
-/// The refusal with the reason and what it is about.
-fn refused_for(alloc: Global, reason: &str, subject: &str) -> CommandFault
-    ensures { IsRefusal (reason.now ++ subject.now) result }
-{
-    match joined(alloc, reason, subject) {
-        Ok(text) => CommandFault::Refused(text),
-        Err(Memory) => CommandFault::Memory,
-    }
-}
 
 fn unfit(alloc: Global, name: &str, misfit: Misfit) -> CommandFault
     ensures { IsUnfit name.now misfit result }
@@ -98,6 +71,12 @@ fn fields_of(alloc: Global, request: &Value) -> Result<Fields, CommandFault>
     })
 }
 
+fn is_absolute(path: &str) -> bool
+    ensures { result ≡ is_absolute path.now }
+{
+    path.as_bytes().starts_with(b"/")
+}
+
 #[tactic(auto, unfolding(crate::specs::Command::build_of))]
 fn build_of(alloc: Global, request: &Value) -> Result<Command, CommandFault>
     ensures { Answers result (build_of request.now) }
@@ -106,6 +85,9 @@ fn build_of(alloc: Global, request: &Value) -> Result<Command, CommandFault>
     let Some(flags) = flags_of(alloc, &fields)? else {
         return Err(refused(alloc, "Not built yet"));
     };
+    if !is_absolute(fields.cwd.as_str()) {
+        return Err(refused(alloc, "Bad working folder"));
+    }
     if fields.entries.len() > MOST_ENTRIES {
         return Err(refused(alloc, "Too many entries"));
     }
@@ -122,17 +104,29 @@ fn build_of(alloc: Global, request: &Value) -> Result<Command, CommandFault>
     })
 }
 
+#[tactic(auto, unfolding(crate::specs::Command::serve_of))]
+fn serve_of(alloc: Global, request: &Value) -> Result<Command, CommandFault>
+    ensures { Answers result (serve_of request.now) }
+{
+    let key = needed(alloc, request, "key")?;
+    let port = needed(alloc, request, "port")?;
+    Ok(Command::Serve { key, port })
+}
+
 #[tactic(auto, unfolding(crate::specs::Command::command_of))]
 fn command_of(alloc: Global, name: &str, request: &Value) -> Result<Command, CommandFault>
     ensures { Answers result (command_of name.now request.now) }
 {
-    if name == "build" {
-        return build_of(alloc, request);
+    match name {
+        "build" => build_of(alloc, request),
+        "rebuild" => Ok(Command::Rebuild(needed(alloc, request, "key")?)),
+        "cancel" => Ok(Command::Cancel(needed(alloc, request, "key")?)),
+        "dispose" => Ok(Command::Dispose(needed(alloc, request, "key")?)),
+        "watch" => Ok(Command::Watch(needed(alloc, request, "key")?)),
+        "serve" => serve_of(alloc, request),
+        "ping" => Ok(Command::Ping),
+        _ => Err(refused_for(alloc, "Unknown command: ", name)),
     }
-    if is_unbuilt(name) {
-        return Err(refused(alloc, "Not built yet"));
-    }
-    Err(refused_for(alloc, "Unknown command: ", name))
 }
 
 #[tactic(auto, unfolding(crate::specs::Command::asked))]

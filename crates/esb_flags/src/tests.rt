@@ -35,16 +35,11 @@ const GOOD: [(&str, Put); 9] = [
 /// A field of the good request, what it is changed to, and the text of the refusal, or none.
 type Row = (&'static str, Put, &'static str);
 
-const COMMANDS: [Row; 9] = [
+const COMMANDS: [Row; 4] = [
     ("command", Put::Absent, "Missing field: command"),
     ("command", Put::Number(1), "Missing field: command"),
     ("command", Put::Chars("frob"), "Unknown command: frob"),
-    ("command", Put::Chars("rebuild"), "Not built yet"),
-    ("command", Put::Chars("cancel"), "Not built yet"),
-    ("command", Put::Chars("dispose"), "Not built yet"),
-    ("command", Put::Chars("watch"), "Not built yet"),
-    ("command", Put::Chars("serve"), "Not built yet"),
-    ("command", Put::Chars("ping"), "Not built yet"),
+    ("command", Put::Chars("Build"), "Unknown command: Build"),
 ];
 
 const KEYS: [Row; 4] = [
@@ -54,7 +49,7 @@ const KEYS: [Row; 4] = [
     ("key", Put::Chars("7"), "Missing field: key"),
 ];
 
-const SHAPES: [Row; 6] = [
+const SHAPES: [Row; 7] = [
     ("entries", Put::Null, "Missing field: entries"),
     ("entries", Put::Texts(&["a.txt"]), "Missing field: entries"),
     (
@@ -64,7 +59,8 @@ const SHAPES: [Row; 6] = [
     ),
     ("write", Put::Number(0), "Missing field: write"),
     ("write", Put::Flag(true), "Not built yet"),
-    ("context", Put::Flag(true), "Not built yet"),
+    ("context", Put::Flag(true), ""),
+    ("context", Put::Null, "Missing field: context"),
 ];
 
 const PLUGINS: [Row; 4] = [
@@ -134,6 +130,132 @@ const FOLDERS: [Row; 5] = [
     ("absWorkingDir", Put::Chars("w"), "Not built yet"),
     ("absWorkingDir", Put::Chars("/w/"), "Not built yet"),
     ("absWorkingDir", Put::Chars("/w/../x"), "Not built yet"),
+];
+
+/// The fields of a request in their order, and what it is read as.
+type Asked = (&'static [(&'static str, Put)], &'static str);
+
+const OTHERS: [Asked; 8] = [
+    (
+        &[("command", Put::Chars("rebuild")), ("key", Put::Number(7))],
+        "rebuild 7",
+    ),
+    (
+        &[("key", Put::Number(8)), ("command", Put::Chars("cancel"))],
+        "cancel 8",
+    ),
+    (
+        &[
+            ("entries", Put::Null),
+            ("command", Put::Chars("dispose")),
+            ("port", Put::Chars("")),
+            ("key", Put::Number(0)),
+        ],
+        "dispose 0",
+    ),
+    (
+        &[
+            ("command", Put::Chars("watch")),
+            ("key", Put::Number(4_294_967_295)),
+        ],
+        "watch 4294967295",
+    ),
+    (
+        &[
+            ("command", Put::Chars("serve")),
+            ("key", Put::Number(1)),
+            ("port", Put::Number(8_000)),
+        ],
+        "serve 1 8000",
+    ),
+    (
+        &[
+            ("port", Put::Number(65_536)),
+            ("key", Put::Number(2)),
+            ("command", Put::Chars("serve")),
+        ],
+        "serve 2 65536",
+    ),
+    (&[("command", Put::Chars("ping"))], "ping"),
+    (
+        &[("key", Put::Null), ("command", Put::Chars("ping"))],
+        "ping",
+    ),
+];
+
+const UNFIT: [Asked; 9] = [
+    (&[("command", Put::Chars("rebuild"))], "Missing field: key"),
+    (
+        &[("command", Put::Chars("cancel")), ("key", Put::Chars("7"))],
+        "Missing field: key",
+    ),
+    (
+        &[("command", Put::Chars("dispose")), ("key", Put::Null)],
+        "Missing field: key",
+    ),
+    (
+        &[("command", Put::Chars("watch")), ("key", Put::Flag(true))],
+        "Missing field: key",
+    ),
+    (&[("command", Put::Chars("serve"))], "Missing field: key"),
+    (
+        &[("command", Put::Chars("serve")), ("port", Put::Number(1))],
+        "Missing field: key",
+    ),
+    (
+        &[("command", Put::Chars("serve")), ("key", Put::Number(1))],
+        "Missing field: port",
+    ),
+    (
+        &[
+            ("command", Put::Chars("serve")),
+            ("key", Put::Number(1)),
+            ("port", Put::Chars("1")),
+        ],
+        "Missing field: port",
+    ),
+    (&[], "Missing field: command"),
+];
+
+/// Requests with more than one thing wrong.
+const ORDER: [Asked; 5] = [
+    (
+        &[("key", Put::Null), ("command", Put::Chars(""))],
+        "Unknown command: ",
+    ),
+    (&[("command", Put::Chars("build"))], "Missing field: key"),
+    (
+        &[
+            ("command", Put::Chars("build")),
+            ("flags", Put::Null),
+            ("entries", Put::Null),
+            ("key", Put::Number(1)),
+        ],
+        "Missing field: entries",
+    ),
+    (
+        &[
+            ("command", Put::Chars("build")),
+            ("key", Put::Number(1)),
+            ("entries", Put::Entries(1_025)),
+            ("flags", Put::Texts(&[])),
+            ("absWorkingDir", Put::Chars("w")),
+            ("write", Put::Flag(true)),
+        ],
+        "Missing field: context",
+    ),
+    (
+        &[
+            ("command", Put::Chars("build")),
+            ("key", Put::Number(1)),
+            ("entries", Put::Entries(1_025)),
+            ("flags", Put::Texts(&[])),
+            ("absWorkingDir", Put::Chars("w")),
+            ("write", Put::Flag(true)),
+            ("context", Put::Flag(true)),
+        ],
+        "Not built yet",
+    ),
 ];
 
 fn texts(alloc: Global, items: &[&'static str]) -> Result<Value, Memory> {
@@ -222,6 +344,73 @@ fn row_holds(alloc: Global, field: &str, put: Put, text: &str) -> Result<bool, M
     answers(alloc, &request, text)
 }
 
+fn request_of(alloc: Global, fields: &[(&'static str, Put)]) -> Result<Value, Memory> {
+    let mut pairs = List::new(alloc);
+    for (name, put) in fields {
+        if let Some(value) = made(alloc, *put)? {
+            pairs.push((Text::of(alloc, name)?, value))?;
+        }
+    }
+    Ok(Value::Map(pairs))
+}
+
+fn spelled(alloc: Global, command: &Command) -> Result<String, AllocError> {
+    match command {
+        Command::Build { key, options } => { format!(in alloc; "build {key} {}", options.context) }
+        Command::Rebuild(key) => format!(in alloc; "rebuild {key}"),
+        Command::Cancel(key) => format!(in alloc; "cancel {key}"),
+        Command::Dispose(key) => format!(in alloc; "dispose {key}"),
+        Command::Watch(key) => format!(in alloc; "watch {key}"),
+        Command::Serve { key, port } => format!(in alloc; "serve {key} {port}"),
+        Command::Ping => String::from_str(alloc, "ping"),
+    }
+}
+
+/// The command, or the text of the refusal.
+fn read(alloc: Global, request: &Value) -> Result<String, Memory> {
+    match read_command(alloc, request) {
+        Ok(command) => Ok(spelled(alloc, &command)?),
+        Err(CommandFault::Refused(refusal)) => Ok(String::from_str(alloc, refusal.as_str())?),
+        Err(CommandFault::Memory) => Err(Memory),
+    }
+}
+
+fn is_read_as(alloc: Global, fields: &[(&'static str, Put)], text: &str) -> Result<bool, Memory> {
+    let request = request_of(alloc, fields)?;
+    Ok(read(alloc, &request)?.as_str() == text)
+}
+
+#[test]
+fn rows_of_others(rt: HostRuntime) -> Result<(), Fail> {
+    for (fields, text) in OTHERS {
+        assert!(rt; is_read_as(rt.alloc(), fields, text)?, "{text}");
+    }
+    Ok(())
+}
+
+#[test]
+fn rows_of_unfit_fields(rt: HostRuntime) -> Result<(), Fail> {
+    for (fields, text) in UNFIT {
+        assert!(rt; is_read_as(rt.alloc(), fields, text)?, "{text}");
+    }
+    Ok(())
+}
+
+#[test]
+fn rows_of_the_order(rt: HostRuntime) -> Result<(), Fail> {
+    for (fields, text) in ORDER {
+        assert!(rt; is_read_as(rt.alloc(), fields, text)?, "{text}");
+    }
+    Ok(())
+}
+
+#[test]
+fn a_context(rt: HostRuntime) -> Result<(), Fail> {
+    let request = request(rt.alloc(), "context", Put::Flag(true))?;
+    assert!(rt; read(rt.alloc(), &request)?.as_str() == "build 7 true");
+    Ok(())
+}
+
 #[test]
 fn rows_of_commands(rt: HostRuntime) -> Result<(), Fail> {
     for (field, put, text) in COMMANDS {
@@ -303,7 +492,9 @@ fn is_good(key: u32, options: &Options) -> bool {
 
 fn good_is_read(alloc: Global) -> Result<bool, CommandFault> {
     let request = request(alloc, "note", Put::Null)?;
-    let Command::Build { key, options } = read_command(alloc, &request)?;
+    let Command::Build { key, options } = read_command(alloc, &request)? else {
+        return Ok(false);
+    };
     Ok(is_good(key, &options))
 }
 

@@ -1,52 +1,16 @@
-//! The commands and the builds that this version takes: files of one folder, copied into another.
+//! The builds that this version takes: files of one folder, copied into another.
 
 ghost use Rattle.std.specs.Prelude.{◌≡◌, ◌==◌, ◌∷◌, [], map, IfOk, string_bytes};
-ghost use Rattle.std.specs.List.{list_any, list_all, slice_split};
+ghost use Rattle.std.specs.List.{list_all, slice_split};
 ghost use Rattle.std.specs.Option.{option_copied, option_map};
-ghost use Rattle.std.specs.Str.{bytes_eq};
-ghost use Rattle.esb_flags.specs.Unbuilt.{unbuilt_commands, is_word, if_word, behind, before, outdir_of, extension_of, copying, is_segment, is_folder, is_copied, all_differ, is_copying, copy_flags, flags_of, dot};
+ghost use Rattle.esb_flags.specs.Words.{dot};
+ghost use Rattle.esb_flags.specs.Unbuilt.{outdir_of, extension_of, copying, is_segment, is_folder, is_copied, all_differ, is_copying, copy_flags, flags_of};
 
 use crate::fields::Fields;
+use crate::words::{before, behind, if_word};
 use esb_base::{Flags, List, Loader, Memory, Text};
 use std::alloc::Global;
 use std::collections::BTreeMap;
-
-/// Whether this is a command that is known and not built yet.
-pub(crate) fn is_unbuilt(name: &str) -> bool
-    ensures { result ≡ list_any (bytes_eq name.now) unbuilt_commands }
-{
-    name == "rebuild"
-        || name == "cancel"
-        || name == "dispose"
-        || name == "watch"
-        || name == "serve"
-        || name == "ping"
-}
-
-fn is_word(chars: &str) -> bool
-    ensures { result ≡ is_word chars.now }
-{
-    let bytes = chars.as_bytes();
-    !bytes.is_empty() && !bytes.contains(&b'.') && !bytes.contains(&b'/')
-}
-
-fn behind<'a>(front: &str, chars: &'a str) -> Option<&'a str>
-    ensures { option_copied result ≡ behind front.now chars.now }
-{
-    chars.strip_prefix(front)
-}
-
-fn before<'a>(back: &str, chars: &'a str) -> Option<&'a str>
-    ensures { option_copied result ≡ before back.now chars.now }
-{
-    chars.strip_suffix(back)
-}
-
-fn if_word(chars: &str) -> Option<&str>
-    ensures { option_copied result ≡ if_word chars.now }
-{
-    if is_word(chars) { Some(chars) } else { None }
-}
 
 #[tactic(auto, unfolding(crate::specs::Unbuilt::outdir_of))]
 fn outdir_of(flag: &str) -> Option<&str>
@@ -133,7 +97,7 @@ fn suffix_of(alloc: Global, extension: &str) -> Result<String, Memory>
 fn is_copying(alloc: Global, extension: &str, fields: &Fields) -> Result<bool, Memory>
     ensures { IfOk result (λ copying. copying ≡ is_copying extension.now fields.now) }
 {
-    if fields.write || fields.context || !fields.plugins.is_empty() {
+    if fields.write || !fields.plugins.is_empty() {
         return Ok(false);
     }
     let suffix = suffix_of(alloc, extension)?;

@@ -1,20 +1,39 @@
--- What holds of each build of a list, once one of them changes or one more begins.
-use Rattle.std.proofs.Common.{◌≡◌, ℕ, zero, suc, ◌<◌, Bool, true, false, cond, List, [], ◌∷◌, ◌++◌, length, refl, sym, subst, nat_eq, slice_set}
-use Rattle.std.proofs.lemmas.Bool.{eqb-true}
-use Rattle.esb_core.specs.State.{Building, build_at}
-use Rattle.esb_core.proofs.Readings.{at-set}
+-- Builds that are settled.
+use Rattle.std.proofs.Common.{◌≡◌, ℕ, ◌<◌, Bool, true, false, length, Option, None, Some, IsSome, sym, refl, ap, subst, slice_set}
+use Rattle.std.specs.Prelude.{is_some}
+use Rattle.std.proofs.lemmas.Bool.{false≢true}
+use Rattle.std.proofs.lemmas.List.{get_or-set_same}
+use Rattle.esb_ask.specs.declared.outcome.Outcome.{Outcome}
+use Rattle.esb_core.specs.declared.event.Event.TheVariants as event
+use Rattle.esb_core.specs.State.{Building, State, build_at, no_build}
+use Rattle.esb_core.specs.Moves.{Move, closed, closed_unless}
+use Rattle.esb_core.specs.Steps.{moved, all_moved, moves, standing, ended_by}
+use Rattle.esb_core.proofs.Each.{each-moved}
 
--- one build changes
-pub set-each : (P : ℕ → Building → Type 0) (bs : List Building) (n : ℕ) (b : Building) → n < length bs → ((k : ℕ) → P k (build_at bs k)) → P n b → (m : ℕ) → P m (build_at (slice_set bs n b) m)
-set-each P bs n b lt all own m = subst (λ (c : Building). P m c) (sym (at-set bs n b m lt)) (by (nat_eq n m) refl)
+pub settled_is_not : {X : Type 0} (o : Outcome) → Some o ≡ None → X
+settled_is_not o e = absurd (let f : ⊥ = cc in f)
+
+pub some_is_not : {X : Type 0} (o : Option Outcome) → IsSome o → o ≡ None → X
+some_is_not None h e = absurd (false≢true h)
+some_is_not (Some o) h e = settled_is_not o e
+
+-- a move leaves each settled build settled
+pub stays-settled : (s : State) (m : Move) (n : ℕ) → IsSome (build_at s.builds n).outcome → IsSome (build_at (moved s m).builds n).outcome
+stays-settled s m =
+    each-moved (λ k b. IsSome (build_at s.builds k).outcome → IsSome b.outcome) (λ k key options h. h) (λ k b id h. h) (λ k b q a h. h)
+    (λ k b o h is. refl) s m (λ k is. is)
+
+-- the build that is settled by an event is settled before its work is taken note of
+pub settle-settles : (s : State) (worker n : ℕ) (o : Outcome) → n < length s.builds → IsSome (build_at (all_moved s (moves s (event.Settle worker n o))).builds n).outcome
+settle-settles s worker n o lt = by (build_at s.builds n).outcome refl
   where
-    by : (t : Bool) → nat_eq n m ≡ t → P m (cond t b (build_at bs m))
-    by true e = subst (λ (k : ℕ). P k b) (eqb-true n m e) own
-    by false e = all m
+    there : IsSome (build_at (slice_set s.builds n (ended_by (build_at s.builds n) o)) n).outcome
+    there = subst (λ (c : Building). IsSome c.outcome) (sym (get_or-set_same s.builds n (ended_by (build_at s.builds n) o) no_build lt)) refl
 
--- one build begins
-pub push-each : (P : ℕ → Building → Type 0) (bs : List Building) (b : Building) → ((k : ℕ) → P k (build_at bs k)) → ((k : ℕ) → P k b) → (m : ℕ) → P m (build_at (bs ++ b ∷ []) m)
-push-each P [] b all own zero = own zero
-push-each P [] b all own (suc m) = all (suc m)
-push-each P (c ∷ bs) b all own zero = all zero
-push-each P (c ∷ bs) b all own (suc m) = push-each (λ k. P (suc k)) bs b (λ k. all (suc k)) (λ k. own (suc k)) m
+    closes : (stays : Bool) → IsSome (build_at (all_moved s (closed (build_at s.builds n).key stays n o)).builds n).outcome
+    closes true = there
+    closes false = there
+
+    by : (p : Option Outcome) → (build_at s.builds n).outcome ≡ p → IsSome (build_at (all_moved s (closed_unless (standing s n) n o p)).builds n).outcome
+    by None is = closes (build_at s.builds n).options.context
+    by (Some first) is = ap (λ (p : Option Outcome). is_some p) is

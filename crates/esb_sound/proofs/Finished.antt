@@ -1,5 +1,5 @@
 -- Each task of a build that isn't settled is open, or claimed, or has its product.
-use Rattle.std.proofs.Common.{◌≡◌, ℕ, ◌<◌, ◌≤◌, ◌⊎◌, inl, inr, Bool, true, not, List, [], ◌∷◌, ◌++◌, length, Option, None, Some, refl, sym, ap, subst, ◌∙◌, arith, nat_eq, slice_get}
+use Rattle.std.proofs.Common.{◌≡◌, ℕ, ◌<◌, ◌≤◌, ◌⊎◌, inl, inr, Bool, true, not, List, [], ◌∷◌, ◌++◌, length, Option, None, Some, IsSome, refl, sym, ap, subst, ◌∙◌, arith, nat_eq, slice_get}
 use Rattle.std.specs.Prelude.{filter, is_none}
 use Rattle.std.specs.List.{list_any}
 use Rattle.std.proofs.lemmas.Option.{slice_get_within}
@@ -17,15 +17,18 @@ use Rattle.esb_ask.specs.Table.{kept}
 use Rattle.esb_ask.specs.Tasks.{same_task}
 use Rattle.esb_ask.proofs.Tables.{kept_extends}
 use Rattle.esb_core.specs.declared.event.Job.TheVariants as job
-use Rattle.esb_core.specs.State.{Building}
+use Rattle.esb_core.specs.State.{Building, State, build_at}
+use Rattle.esb_core.specs.Moves.{Move}
 use Rattle.esb_core.specs.Steps
-use Rattle.esb_core.specs.Steps.{named, opened, is_claim, task_claimed, link_claimed, recorded, delivered, settled}
+use Rattle.esb_core.specs.Steps.{named, opened, is_claim, task_claimed, link_claimed, all_moved, joined, answered, delivered, released}
 use Rattle.esb_core.specs.Allowed.{job_of}
 use Rattle.esb_core.proofs.Claims.{job-fits, both_parts}
+use Rattle.esb_core.proofs.Each.{each-all_moved}
 use Rattle.esb_scan.specs.declared.run.Run.TheVariants as run_of
 use Rattle.esb_scan.specs.Run.{run, run_numbered, is_done}
 use Rattle.esb_scan.specs.Complete.{IsComplete}
 use Rattle.esb_scan.proofs.Runs.{run_same}
+use Rattle.esb_sound.proofs.Builds.{settled_is_not, some_is_not}
 use Rattle.esb_sound.proofs.Tasks.{below_or_last, any-left, ended, place-of, entry-among, opened-keeps, opened-has, opened-get, opened-longer, stands, stands-push, stands-after, none_stand}
 
 -- a task has its product, and what that names is among the tasks
@@ -43,13 +46,10 @@ pub record IsOnWay (b : Building) : Type 0 where
 abbrev pub OnWay : Building → Type 0
 OnWay b = b.outcome ≡ None → IsOnWay b
 
-settled_is_not : {X : Type 0} (o : Outcome) → Some o ≡ None → X
-settled_is_not o e = absurd (let f : ⊥ = cc in f)
-
 -- ---- each change of a build
 
-pub fresh-on_way : (id key : ℕ) (options : Options) → OnWay (Steps.fresh id key options)
-fresh-on_way id key options none = record {
+fresh-on_way : (key : ℕ) (options : Options) → OnWay (Steps.fresh key options)
+fresh-on_way key options none = record {
   entries = λ number lt. entry-among (length options.entries) 0 number (omega arith) (omega arith);
   within = omega arith;
   taken = λ i t lt at. absurd (omega arith);
@@ -76,7 +76,10 @@ task-claimed b worker t first h = record {
 pub link-claimed : (b : Building) (worker : ℕ) → IsOnWay b → IsOnWay (link_claimed b worker)
 link-claimed b worker h = record { entries = h.entries; within = h.within; taken = h.taken }
 
-kept-on_way : (b : Building) (q : Question) (a : Answer) → IsOnWay b → IsOnWay (record b { table = kept b.table q a })
+joined-on_way : (b : Building) (id : ℕ) → OnWay b → OnWay (joined b id)
+joined-on_way b id h none = let on = h none in record { entries = on.entries; within = on.within; taken = on.taken }
+
+kept-on_way : (b : Building) (q : Question) (a : Answer) → IsOnWay b → IsOnWay (answered b q a)
 kept-on_way b q a h = record { entries = h.entries; within = h.within; taken = λ i t lt at. by t (h.taken i t lt at) }
   where
     by : (t : Task) → (stands b.claims t ≡ true) ⊎ IsFinished b.options b.table b.tasks t → (stands b.claims t ≡ true) ⊎ IsFinished b.options (kept b.table q a) b.tasks t
@@ -86,13 +89,6 @@ kept-on_way b q a h = record { entries = h.entries; within = h.within; taken = �
       given = run_same b.options b.table (kept b.table q a) t done.product (kept_extends b.table q a) done.given;
       leads = done.leads;
     })
-
-pub recorded-on_way : (b : Building) (q : Question) (a : Answer) → OnWay b → OnWay (recorded b q a b.outcome)
-recorded-on_way b q a h = by b.outcome refl
-  where
-    by : (o : Option Outcome) → b.outcome ≡ o → OnWay (recorded b q a o)
-    by None is none = kept-on_way b q a (h is)
-    by (Some o) is none = h none
 
 opened-on_way : (b : Building) (worker : ℕ) (t : Task) (p : Product) → run b.options b.table t ≡ run_of.Done p → IsOnWay b
     → IsOnWay (record (Steps.unclaimed b worker t) { tasks = opened b.tasks (named p) })
@@ -130,12 +126,14 @@ delivered-on_way b worker t p given h = by b.outcome refl
     by None is none = opened-on_way b worker t p given (h is)
     by (Some o) is none = settled_is_not o (sym is ∙ none)
 
-pub settled-on_way : (b : Building) (worker : ℕ) (o : Outcome) → OnWay (settled b worker o b.outcome)
-settled-on_way b worker o = by b.outcome refl
-  where
-    by : (p : Option Outcome) → b.outcome ≡ p → OnWay (settled b worker o p)
-    by None is none = settled_is_not o none
-    by (Some p) is none = settled_is_not p (sym is ∙ none)
+pub released-on_way : (b : Building) (worker : ℕ) → IsSome b.outcome → OnWay (released b worker)
+released-on_way b worker h none = some_is_not b.outcome h none
+
+-- moves leave each build on its way
+pub moves-on_way : (s : State) (ms : List Move) → ((n : ℕ) → OnWay (build_at s.builds n)) → (n : ℕ) → OnWay (build_at (all_moved s ms).builds n)
+moves-on_way s ms h =
+    each-all_moved (λ k b. OnWay b) (λ k key options own. fresh-on_way key options) (λ k b id own. joined-on_way b id own) (λ k b q a own none. kept-on_way b q a (own none))
+    (λ k b o own none. settled_is_not o none) s ms h
 
 -- ---- the link
 

@@ -1,21 +1,12 @@
 -- With one worker, a build that isn't settled has no claim but that of the job in hand.
-use Rattle.std.proofs.Common.{◌≡◌, ◌⊎◌, inl, inr, append_assoc, ℕ, zero, suc, ◌+◌, ◌<◌, Bool, true, false, cond, not, ◌&&◌, List, [], ◌∷◌, ◌++◌, length, Option, None, Some, IsSome, Ok, Err, refl, sym, ap, subst, ◌∙◌, arith, nat_eq, nat_lt, slice_get, slice_set}
+use Rattle.std.proofs.Common.{◌≡◌, ◌⊎◌, inl, inr, append_assoc, ℕ, zero, suc, ◌+◌, ◌<◌, Bool, true, false, cond, not, ◌&&◌, List, [], ◌∷◌, ◌++◌, length, Option, None, Some, IsSome, refl, sym, ap, subst, ◌∙◌, arith, nat_eq, slice_get, slice_set}
 use Rattle.std.specs.Prelude.{filter, fold, is_none, is_some}
 use Rattle.std.proofs.lemmas.Bool.{eqb-true, ltb-true}
 use Rattle.std.proofs.lemmas.List.{length-map}
 use Rattle.esb_base.specs.World.{Folder}
-use Rattle.esb_wire.specs.declared.value.Packet.{Packet}
-use Rattle.esb_flags.specs.declared.options.Options.{Options}
-use Rattle.esb_flags.specs.declared.command.Command.{Command}
-use Rattle.esb_flags.specs.declared.command.Command.TheVariants as command
-use Rattle.esb_flags.specs.Fields.{Answer as Asked}
-use Rattle.esb_flags.specs.Command.{asked}
-use Rattle.esb_ask.specs.declared.question.Question.{Question}
-use Rattle.esb_ask.specs.declared.answer.Answer.{Answer}
 use Rattle.esb_ask.specs.declared.task.Task.{Task}
 use Rattle.esb_ask.specs.declared.product.Product.{Product}
 use Rattle.esb_ask.specs.declared.outcome.Outcome.{Outcome}
-use Rattle.esb_ask.specs.Table.{fits}
 use Rattle.esb_ask.specs.Tasks.{product_fits}
 use Rattle.esb_ask.proofs.SameTask.{same_task-refl}
 use Rattle.esb_core.specs.declared.event.Job.{Job}
@@ -24,17 +15,19 @@ use Rattle.esb_core.specs.declared.event.Role.{Role}
 use Rattle.esb_core.specs.declared.event.Role.TheVariants as role
 use Rattle.esb_core.specs.declared.event.Event.{Event}
 use Rattle.esb_core.specs.declared.event.Event.TheVariants as event
-use Rattle.esb_core.specs.State.{Building, State, build_at, start}
+use Rattle.esb_core.specs.State.{Building, State, build_at, no_build, start}
+use Rattle.esb_core.specs.Moves.{Move}
 use Rattle.esb_core.specs.Steps
-use Rattle.esb_core.specs.Steps.{after, after_packet, after_command, begun_if, is_claim, most_builds, task_claimed, link_claimed, recorded, delivered, settled}
+use Rattle.esb_core.specs.Steps.{after, all_moved, moves, fresh, joined, answered, is_claim, task_claimed, link_claimed, delivered, released}
 use Rattle.esb_core.specs.Allowed.{allowed, has_begun, first_from, first_job, job_by, job_of, job_unless, link_if, is_scanned, names_job, or_next, has_task, may_settle}
 use Rattle.esb_core.specs.History.{builds, is_legal, is_legal_from, outcome, replay, replay_from}
 use Rattle.esb_core.proofs.Claims.{claim-is, scan-is, link-is, both_parts}
-use Rattle.esb_core.proofs.Readings.{at-push, at-set, begun_of}
-use Rattle.esb_core.proofs.Laws.{reads-legal}
+use Rattle.esb_core.proofs.Each.{each-all_moved}
+use Rattle.esb_core.proofs.Readings.{at-set, begun_of}
+use Rattle.esb_core.proofs.Laws.{all_moved-longer, reads-legal}
 use Rattle.esb_sound.specs.Each.{Each, Each-from}
 use Rattle.esb_sound.specs.Serial.{doing, doing_after, Handles, InTurn, IsInTurn}
-use Rattle.esb_sound.proofs.Builds.{set-each}
+use Rattle.esb_sound.proofs.Builds.{settled_is_not, some_is_not, settle-settles}
 
 -- ---- the claims that a job in hand makes
 
@@ -63,9 +56,6 @@ AllHave hand s = (n : ℕ) → Has hand n (build_at s.builds n)
 alike : (hand : Option Job) (n : ℕ) (b c : Building) → c.outcome ≡ b.outcome → c.claims ≡ b.claims → c.linker ≡ b.linker → Has hand n b → Has hand n c
 alike hand n b c outcomes claims linkers h none =
     let has = h (sym outcomes ∙ none) in record { claims = claims ∙ has.claims; linker = linkers ∙ has.linker }
-
-settled_is_not : {X : Type 0} (o : Outcome) → Some o ≡ None → X
-settled_is_not o e = absurd (let f : ⊥ = cc in f)
 
 self : (n : ℕ) → nat_eq n n ≡ true
 self n = grind (arith)
@@ -114,13 +104,6 @@ link-claimed n b h none = record {
   linker = ap (λ (c : Bool). cond c (Some 0) None) (sym (self n));
 }
 
-recorded-has : (hand : Option Job) (n : ℕ) (b : Building) (q : Question) (a : Answer) → Has hand n b → Has hand n (recorded b q a b.outcome)
-recorded-has hand n b q a h = by b.outcome
-  where
-    by : (o : Option Outcome) → Has hand n (recorded b q a o)
-    by None = alike hand n b (recorded b q a None) refl refl refl h
-    by (Some o) = h
-
 delivered-has : (n : ℕ) (b : Building) (t : Task) (p : Product) → Has (Some (job.Scan n t)) n b → Has None n (delivered b 0 t p b.outcome)
 delivered-has n b t p h = by b.outcome refl
   where
@@ -140,29 +123,13 @@ delivered-has n b t p h = by b.outcome refl
     }
     by (Some o) is none = settled_is_not o (sym is ∙ none)
 
-settled-has : (hand : Option Job) (n worker : ℕ) (b : Building) (o : Outcome) → Has hand n (settled b worker o b.outcome)
-settled-has hand n worker b o = by b.outcome refl
-  where
-    by : (p : Option Outcome) → b.outcome ≡ p → Has hand n (settled b worker o p)
-    by None is none = settled_is_not o none
-    by (Some p) is none = settled_is_not p (sym is ∙ none)
+-- moves change nothing of what is claimed
+moves-have : (hand : Option Job) (s : State) (ms : List Move) → AllHave hand s → AllHave hand (all_moved s ms)
+moves-have hand s ms h =
+    each-all_moved (Has hand) (λ k key options own. alike hand k no_build (fresh key options) refl refl refl own) (λ k b id own. alike hand k b (joined b id) refl refl refl own)
+    (λ k b q a own. alike hand k b (answered b q a) refl refl refl own) (λ k b o own none. settled_is_not o none) s ms h
 
 -- ---- steps
-
-begins : (hand : Option Job) (s : State) (id key : ℕ) (options : Options) (few : Bool) → AllHave hand s → AllHave hand (begun_if s id key options few)
-begins hand s id key options false h = h
-begins hand s id key options true h =
-    let b = Steps.fresh id key options in
-    λ n. alike hand n (build_at s.builds n) (build_at (s.builds ++ b ∷ []) n)
-    (at-push (λ c. c.outcome) s.builds b n refl) (at-push (λ c. c.claims) s.builds b n refl) (at-push (λ c. c.linker) s.builds b n refl) (h n)
-
-commands : (hand : Option Job) (s : State) (id : ℕ) (a : Asked Command) → AllHave hand s → AllHave hand (after_command s id a)
-commands hand s id (Err text) h = h
-commands hand s id (Ok (command.Build key options)) h = begins hand s id key options (nat_lt (length s.builds) most_builds) h
-
-arrives : (hand : Option Job) (s : State) (p : Packet) (t : Bool) → AllHave hand s → AllHave hand (after_packet s p t)
-arrives hand s p false h = h
-arrives hand s p true h = commands hand s p.id (asked p.value) h
 
 claims : (s : State) (j : Job) → names_job (first_job s (role.Worker 0)) j ≡ true → AllHave None s → AllHave (Some j) (Steps.after_claim s (role.Worker 0) j)
 claims s (job.Scan n t) may h =
@@ -178,33 +145,41 @@ delivers s n t p lt h =
     set-others (λ k c. Has None k c) s.builds n (delivered (build_at s.builds n) 0 t p (build_at s.builds n).outcome) lt
     (λ k apart. given-back (job.Scan n t) k (build_at s.builds k) apart (h k)) (delivered-has n (build_at s.builds n) t p (h n))
 
-settles : (s : State) (worker : ℕ) (o : Outcome) (j : Job) → build_of j < length s.builds → AllHave (Some j) s → AllHave None (Steps.after_settle s worker (build_of j) o)
-settles s worker o j lt h =
-    set-others (λ k c. Has None k c) s.builds (build_of j) (settled (build_at s.builds (build_of j)) worker o (build_at s.builds (build_of j)).outcome) lt
-    (λ k apart. given-back j k (build_at s.builds k) apart (h k)) (settled-has None (build_of j) worker (build_at s.builds (build_of j)) o)
+settles : (s : State) (worker : ℕ) (j : Job) → build_of j < length s.builds → IsSome (build_at s.builds (build_of j)).outcome → AllHave (Some j) s
+    → AllHave None (Steps.changed s (build_of j) (released (build_at s.builds (build_of j)) worker))
+settles s worker j lt is h =
+    set-others (λ k c. Has None k c) s.builds (build_of j) (released (build_at s.builds (build_of j)) worker) lt
+    (λ k apart. given-back j k (build_at s.builds k) apart (h k)) (λ none. some_is_not (build_at s.builds (build_of j)).outcome is none)
 
 -- each step of an event that is allowed, where the one worker handles one job at a time
 step : (s : State) (before : List Event) (e : Event) → allowed s e ≡ true → Handles before e → AllHave (doing before) s → AllHave (doing_after (doing before) e) (after s e)
-step s before (event.Arrive packet) may handles h = arrives (doing before) s packet packet.request h
+step s before (event.Arrive packet) may handles h = moves-have (doing before) s (moves s (event.Arrive packet)) h
 step s before event.EndOfInput may handles h = h
 step s before (event.Claim ro j) may handles h =
     subst (λ (r : Role). AllHave (Some j) (Steps.after_claim s r j)) (sym handles.0)
     (claims s j (ap (λ (r : Role). names_job (first_job s r) j) (sym handles.0) ∙ may) (subst (λ (hand : Option Job). AllHave hand s) handles.1 h))
-step s before (event.Record worker n q a) may handles h =
-    set-each (λ k c. Has (doing before) k c) s.builds n (recorded (build_at s.builds n) q a (build_at s.builds n).outcome)
-    (ltb-true n (length s.builds) (both_parts (has_begun s n) (fits q a) may).0) h (recorded-has (doing before) n (build_at s.builds n) q a (h n))
+step s before (event.Record worker n q a) may handles h = moves-have (doing before) s (moves s (event.Record worker n q a)) h
 step s before (event.Deliver worker n t p) may handles h =
     subst (λ (w : ℕ). AllHave None (Steps.changed s n (delivered (build_at s.builds n) w t p (build_at s.builds n).outcome))) (sym handles.0)
     (delivers s n t p (ltb-true n (length s.builds) (both_parts (has_begun s n) (has_task (build_at s.builds n) worker t && product_fits t p) may).0)
     (subst (λ (hand : Option Job). AllHave hand s) handles.1 h))
 step s before (event.Settle worker n o) may handles h = by handles.1
   where
+    u : State
+    u = all_moved s (moves s (event.Settle worker n o))
+
     lt : n < length s.builds
     lt = ltb-true n (length s.builds) (both_parts (has_begun s n) (may_settle (build_at s.builds n) worker o) may).0
 
-    by : (doing before ≡ Some (job.Link n)) ⊎ ((t : Task) × (doing before ≡ Some (job.Scan n t))) → AllHave None (Steps.after_settle s worker n o)
-    by (inl link) = settles s worker o (job.Link n) lt (subst (λ (hand : Option Job). AllHave hand s) link h)
-    by (inr scan) = settles s worker o (job.Scan n scan.0) lt (subst (λ (hand : Option Job). AllHave hand s) scan.1 h)
+    within : n < length u.builds
+    within = let longer = all_moved-longer s (moves s (event.Settle worker n o)) in omega (arith, lt, longer)
+
+    have : (j : Job) → doing before ≡ Some j → AllHave (Some j) u
+    have j is = moves-have (Some j) s (moves s (event.Settle worker n o)) (subst (λ (hand : Option Job). AllHave hand s) is h)
+
+    by : (doing before ≡ Some (job.Link n)) ⊎ ((t : Task) × (doing before ≡ Some (job.Scan n t))) → AllHave None (Steps.changed u n (released (build_at u.builds n) worker))
+    by (inl link) = settles u worker (job.Link n) within (settle-settles s worker n o lt) (have (job.Link n) link)
+    by (inr scan) = settles u worker (job.Scan n scan.0) within (settle-settles s worker n o lt) (have (job.Scan n scan.0) scan.1)
 step s before event.Pop may handles h = h
 
 -- ---- lists

@@ -1,17 +1,10 @@
 -- Where the link of a build is open, its answers are complete.
-use Rattle.std.proofs.Common.{◌≡◌, ℕ, zero, suc, ◌<◌, Bool, true, false, ◌&&◌, List, [], ◌∷◌, ◌++◌, length, map, Some, Ok, Err, refl, sym, ap, ◌∙◌, arith, nat_lt, slice_index_or}
+use Rattle.std.proofs.Common.{◌≡◌, ℕ, zero, suc, true, List, [], ◌∷◌, ◌++◌, length, map, Some, refl, sym, ap, ◌∙◌, arith, slice_index_or}
 use Rattle.std.proofs.lemmas.Bool.{ltb-true}
-use Rattle.esb_wire.specs.declared.value.Packet.{Packet}
 use Rattle.esb_flags.specs.declared.options.Options.{Options}
-use Rattle.esb_flags.specs.declared.command.Command.{Command}
-use Rattle.esb_flags.specs.declared.command.Command.TheVariants as command
-use Rattle.esb_flags.specs.Fields.{Answer as Asked}
-use Rattle.esb_flags.specs.Command.{asked}
 use Rattle.esb_ask.specs.declared.question.Question.{Question}
 use Rattle.esb_ask.specs.declared.answer.Answer.{Answer}
 use Rattle.esb_ask.specs.declared.task.Task.{Task}
-use Rattle.esb_ask.specs.Table.{fits}
-use Rattle.esb_ask.specs.Tasks.{product_fits}
 use Rattle.esb_core.specs.declared.event.Job.{Job}
 use Rattle.esb_core.specs.declared.event.Job.TheVariants as job
 use Rattle.esb_core.specs.declared.event.Role.{Role}
@@ -20,18 +13,19 @@ use Rattle.esb_core.specs.declared.event.Event.{Event}
 use Rattle.esb_core.specs.declared.event.Event.TheVariants as event
 use Rattle.esb_core.specs.State.{Building, State, build_at, start}
 use Rattle.esb_core.specs.Steps
-use Rattle.esb_core.specs.Steps.{after, after_packet, after_command, begun_if, most_builds, task_claimed, link_claimed, recorded, delivered, settled}
-use Rattle.esb_core.specs.Allowed.{allowed, has_begun, first_job, names_job, has_task, may_settle, job_of}
-use Rattle.esb_core.specs.History.{no_begun, build, table, is_legal, is_legal_from, replay, replay_from}
-use Rattle.esb_core.proofs.Claims.{claim-is, scan-is, link-is, both_parts}
+use Rattle.esb_core.specs.Steps.{after, all_moved, moves, task_claimed, link_claimed, delivered, released}
+use Rattle.esb_core.specs.Allowed.{allowed, has_begun, first_job, names_job, may_settle, job_of}
+use Rattle.esb_core.specs.History.{no_begun, build, moves_in, table, is_legal, is_legal_from, replay, replay_from}
+use Rattle.esb_core.proofs.Claims.{claim-is, scan-is, both_parts}
+use Rattle.esb_core.proofs.Each.{each-set}
 use Rattle.esb_core.proofs.Readings.{Reads, begun_of}
-use Rattle.esb_core.proofs.Laws.{reads-step, reads-legal}
+use Rattle.esb_core.proofs.Laws.{IsRead, reads-step, read-legal}
 use Rattle.esb_scan.specs.Run.{run}
 use Rattle.esb_scan.specs.Complete.{IsComplete}
 use Rattle.esb_sound.specs.Each.{Each-from}
 use Rattle.esb_sound.specs.Sound.{Sound, IsSound}
-use Rattle.esb_sound.proofs.Builds.{set-each, push-each}
-use Rattle.esb_sound.proofs.Finished.{OnWay, fresh-on_way, task-claimed, link-claimed, recorded-on_way, delivered-on_way, settled-on_way, link-complete}
+use Rattle.esb_sound.proofs.Builds.{settle-settles}
+use Rattle.esb_sound.proofs.Finished.{OnWay, task-claimed, link-claimed, delivered-on_way, released-on_way, moves-on_way, link-complete}
 
 -- each build is on its way
 abbrev AllOnWay : State → Type 0
@@ -39,7 +33,7 @@ AllOnWay s = (n : ℕ) → OnWay (build_at s.builds n)
 
 -- ---- the direct answers are those of the state
 
-module _ (s : State) (es : List Event) (r : Reads s es) (n : ℕ) where
+module _ (s : State) (es : List Event) (r : Reads s (moves_in es)) (n : ℕ) where
   options_are : (build es n).options ≡ (build_at s.builds n).options
   options_are = ap (λ (bs : List _). (slice_index_or bs n no_begun).options) (sym r.begun) ∙ at_map s.builds n
     where
@@ -53,53 +47,36 @@ module _ (s : State) (es : List Event) (r : Reads s es) (n : ℕ) where
 
 -- ---- steps
 
-begins : (s : State) (id key : ℕ) (options : Options) (few : Bool) → AllOnWay s → AllOnWay (begun_if s id key options few)
-begins s id key options false h = h
-begins s id key options true h = push-each (λ k b. OnWay b) s.builds (Steps.fresh id key options) h (λ k. fresh-on_way id key options)
-
-commands : (s : State) (id : ℕ) (a : Asked Command) → AllOnWay s → AllOnWay (after_command s id a)
-commands s id (Err text) h = h
-commands s id (Ok (command.Build key options)) h = begins s id key options (nat_lt (length s.builds) most_builds) h
-
-arrives : (s : State) (p : Packet) (t : Bool) → AllOnWay s → AllOnWay (after_packet s p t)
-arrives s p false h = h
-arrives s p true h = commands s p.id (asked p.value) h
-
-changes : (s : State) (n : ℕ) (b : Building) → n < length s.builds → OnWay b → AllOnWay s → AllOnWay (Steps.changed s n b)
-changes s n b lt own h = set-each (λ k c. OnWay c) s.builds n b lt h own
+changes : (s : State) (n : ℕ) (b : Building) → OnWay b → AllOnWay s → AllOnWay (Steps.changed s n b)
+changes s n b own h = each-set (λ k c. OnWay c) s.builds n b h own
 
 claims : (s : State) (ro : Role) (j : Job) → names_job (first_job s ro) j ≡ true → AllOnWay s → AllOnWay (Steps.after_claim s ro j)
 claims s (role.Worker worker) (job.Scan n t) may h =
     let open_task = scan-is s.builds n t (claim-is s worker (job.Scan n t) may) in
-    changes s n (task_claimed (build_at s.builds n) worker t) open_task.begun (λ none. task-claimed (build_at s.builds n) worker t open_task.first (h n none)) h
+    changes s n (task_claimed (build_at s.builds n) worker t) (λ none. task-claimed (build_at s.builds n) worker t open_task.first (h n none)) h
 claims s (role.Worker worker) (job.Link n) may h =
-    let ready = link-is s.builds n (claim-is s worker (job.Link n) may) in
-    changes s n (link_claimed (build_at s.builds n) worker) ready.begun (λ none. link-claimed (build_at s.builds n) worker (h n none)) h
+    changes s n (link_claimed (build_at s.builds n) worker) (λ none. link-claimed (build_at s.builds n) worker (h n none)) h
 claims s (role.Door door) j may h = h
 
 -- each step of an event that is allowed and sound
-on_way-step : (s : State) (es : List Event) (e : Event) → Reads s es → AllOnWay s → allowed s e ≡ true → IsSound es e → AllOnWay (after s e)
-on_way-step s es (event.Arrive packet) r h may sound = arrives s packet packet.request h
+on_way-step : (s : State) (es : List Event) (e : Event) → Reads s (moves_in es) → AllOnWay s → allowed s e ≡ true → IsSound es e → AllOnWay (after s e)
+on_way-step s es (event.Arrive packet) r h may sound = moves-on_way s (moves s (event.Arrive packet)) h
 on_way-step s es event.EndOfInput r h may sound = h
 on_way-step s es (event.Claim ro j) r h may sound = claims s ro j may h
-on_way-step s es (event.Record worker n q a) r h may sound =
-    changes s n (recorded (build_at s.builds n) q a (build_at s.builds n).outcome) (ltb-true n (length s.builds) (both_parts (has_begun s n) (fits q a) may).0)
-    (recorded-on_way (build_at s.builds n) q a (h n)) h
+on_way-step s es (event.Record worker n q a) r h may sound = moves-on_way s (moves s (event.Record worker n q a)) h
 on_way-step s es (event.Deliver worker n t p) r h may sound =
-    changes s n (delivered (build_at s.builds n) worker t p (build_at s.builds n).outcome)
-    (ltb-true n (length s.builds) (both_parts (has_begun s n) (has_task (build_at s.builds n) worker t && product_fits t p) may).0)
-    (delivered-on_way (build_at s.builds n) worker t p (run_is s es r n t ∙ sound) (h n)) h
+    changes s n (delivered (build_at s.builds n) worker t p (build_at s.builds n).outcome) (delivered-on_way (build_at s.builds n) worker t p (run_is s es r n t ∙ sound) (h n)) h
 on_way-step s es (event.Settle worker n o) r h may sound =
-    set-each (λ k c. OnWay c) s.builds n (settled (build_at s.builds n) worker o (build_at s.builds n).outcome)
-    (ltb-true n (length s.builds) (both_parts (has_begun s n) (may_settle (build_at s.builds n) worker o) may).0) h
-    (settled-on_way (build_at s.builds n) worker o)
+    let t : State = all_moved s (moves s (event.Settle worker n o)) in
+    let lt = ltb-true n (length s.builds) (both_parts (has_begun s n) (may_settle (build_at s.builds n) worker o) may).0 in
+    changes t n (released (build_at t.builds n) worker) (released-on_way (build_at t.builds n) worker (settle-settles s worker n o lt)) (moves-on_way s (moves s (event.Settle worker n o)) h)
 on_way-step s es event.Pop r h may sound = h
 
-on_way-from : (s : State) (es more : List Event) → Reads s es → AllOnWay s → is_legal_from s more ≡ true → Each-from IsSound es more → AllOnWay (replay_from s more)
+on_way-from : (s : State) (es more : List Event) → IsRead s es → AllOnWay s → is_legal_from s more ≡ true → Each-from IsSound es more → AllOnWay (replay_from s more)
 on_way-from s es [] r h legal sound = h
 on_way-from s es (e ∷ more) r h legal sound =
     let parts = both_parts (allowed s e) (is_legal_from (after s e) more) legal in
-    on_way-from (after s e) (es ++ e ∷ []) more (reads-step s es e r parts.0) (on_way-step s es e r h parts.0 sound.0) parts.1 sound.1
+    on_way-from (after s e) (es ++ e ∷ []) more (reads-step s es e r parts.0) (on_way-step s es e r.reads h parts.0 sound.0) parts.1 sound.1
 
 at_start : AllOnWay start
 at_start n none = record {
@@ -111,4 +88,4 @@ at_start n none = record {
 pub links_are_complete : (events : List Event) (n : ℕ) → is_legal events ≡ true → Sound events → job_of n (build_at (replay events).builds n) ≡ Some (job.Link n)
     → IsComplete (build_at (replay events).builds n).options (build_at (replay events).builds n).table
 links_are_complete events n legal sound open_link =
-    link-complete n (build_at (replay events).builds n) (on_way-from start [] events (reads-legal [] refl) at_start legal sound n) open_link
+    link-complete n (build_at (replay events).builds n) (on_way-from start [] events (read-legal [] refl) at_start legal sound n) open_link

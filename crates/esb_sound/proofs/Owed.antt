@@ -1,8 +1,6 @@
 -- What is owed stays ready to be sent.
-use Rattle.std.proofs.Common.{◌≡◌, ℕ, zero, suc, ◌<◌, ◌^◌, Bool, true, false, not, ◌&&◌, List, [], ◌∷◌, ◌++◌, length, drop, Option, None, Some, IsSome, Ok, Err, refl, sym, ap, subst, arith, nat_lt, slice_get, slice_set, true≢false}
+use Rattle.std.proofs.Common.{◌≡◌, ◌⊎◌, inl, inr, ℕ, zero, suc, ◌<◌, ◌^◌, Bool, true, false, not, if◌then◌else◌, List, [], ◌∷◌, ◌++◌, drop, Option, None, Some, IsSome, Ok, Err, refl, sym, subst, nat_lt, slice_get, slice_set, true≢false}
 use Rattle.std.specs.List.{AllByRecursion}
-use Rattle.std.specs.Prelude.{is_some}
-use Rattle.std.proofs.lemmas.List.{get_or-set_same}
 use Rattle.std.proofs.lemmas.Bool.{ltb-true}
 use Rattle.esb_wire.specs.declared.value.Packet.{Packet}
 use Rattle.esb_wire.specs.Spelling.{max_depth}
@@ -16,8 +14,6 @@ use Rattle.esb_ask.specs.declared.answer.Answer.{Answer}
 use Rattle.esb_ask.specs.declared.task.Task.{Task}
 use Rattle.esb_ask.specs.declared.product.Product.{Product}
 use Rattle.esb_ask.specs.declared.outcome.Outcome.{Outcome}
-use Rattle.esb_ask.specs.Table.{fits}
-use Rattle.esb_ask.specs.Tasks.{product_fits}
 use Rattle.esb_core.specs.declared.out.Out.{Out}
 use Rattle.esb_core.specs.declared.out.Out.TheVariants as out
 use Rattle.esb_core.specs.declared.out.Body.TheVariants as body
@@ -27,18 +23,25 @@ use Rattle.esb_core.specs.declared.event.Role.{Role}
 use Rattle.esb_core.specs.declared.event.Role.TheVariants as role
 use Rattle.esb_core.specs.declared.event.Event.{Event}
 use Rattle.esb_core.specs.declared.event.Event.TheVariants as event
-use Rattle.esb_core.specs.State.{Building, State, build_at, no_build, start}
+use Rattle.esb_core.specs.State.{Building, State, build_at, start}
 use Rattle.esb_core.specs.Steps
-use Rattle.esb_core.specs.Steps.{after, after_packet, after_command, begun_if, most_builds, task_claimed, link_claimed, recorded, delivered, settled, owed_by}
-use Rattle.esb_core.specs.Allowed.{allowed, has_begun, first_job, names_job, has_task, may_settle, may_arrive, is_proper, id_limit}
+use Rattle.esb_core.specs.Moves.{Move, make, remove, begin, join, owe, keep, close, take, Met, Standing, key_of, options_of, refusal, done, begun, joined_or_begun, closed, canceled, effect, refused_or, requested, kept_unless, closed_unless}
+use Rattle.esb_core.specs.Steps.{after, moved, all_moved, moves, met, standing, fresh, joined, answered, ended_by, results, task_claimed, link_claimed, delivered, released}
+use Rattle.esb_core.specs.Allowed.{allowed, may_arrive, is_proper, id_limit}
 use Rattle.esb_core.specs.History.{is_legal, is_legal_from, replay, replay_from}
-use Rattle.esb_core.proofs.Claims.{claim-is, scan-is, link-is, both_parts}
+use Rattle.esb_core.proofs.Claims.{both_parts}
+use Rattle.esb_core.proofs.Each.{each-set, each-push}
+use Rattle.esb_core.proofs.Laws.{delivered-same}
 use Rattle.esb_sound.specs.Ready.{IsReady}
-use Rattle.esb_sound.proofs.Builds.{set-each, push-each}
+use Rattle.esb_sound.proofs.Builds.{stays-settled}
+
+-- an id that fits
+abbrev IsSmall : ℕ → Type 0
+IsSmall id = id < 2 ^ 31
 
 -- each waiting request has an id that fits, and all that is owed is ready
 pub record AreReady (s : State) : Type 0 where
-  pub waiters : (n : ℕ) → (build_at s.builds n).waiter < 2 ^ 31
+  pub waiting : (n : ℕ) → AllByRecursion IsSmall (build_at s.builds n).waiting
   pub owed : AllByRecursion (IsReady s.builds) s.owed
 
 -- ---- lists
@@ -50,6 +53,10 @@ all-map P Q f (x ∷ xs) h = (f x h.0, all-map P Q f xs h.1)
 all-push : {X : Type 0} (P : X → Type 0) (xs : List X) (x : X) → AllByRecursion P xs → P x → AllByRecursion P (xs ++ x ∷ [])
 all-push P [] x h own = (own, tt)
 all-push P (y ∷ ys) x h own = (h.0, all-push P ys x h.1 own)
+
+all-append : {X : Type 0} (P : X → Type 0) (xs ys : List X) → AllByRecursion P xs → AllByRecursion P ys → AllByRecursion P (xs ++ ys)
+all-append P [] ys h more = more
+all-append P (x ∷ xs) ys h more = (h.0, all-append P xs ys h.1 more)
 
 all-rest : {X : Type 0} (P : X → Type 0) (xs : List X) → AllByRecursion P xs → AllByRecursion P (drop 1 xs)
 all-rest P [] h = tt
@@ -67,113 +74,162 @@ ready-stays bs cs stay (out.Reply id body.Empty) h = h
 ready-stays bs cs stay (out.Reply id (body.Error text)) h = h
 ready-stays bs cs stay (out.Reply id (body.Result n)) h = (h.0, stay n h.1)
 
--- ---- steps
+-- the results of a settled build are ready
+results-ready : (bs : List Building) (n : ℕ) (ids : List ℕ) → IsSome (build_at bs n).outcome → AllByRecursion IsSmall ids → AllByRecursion (IsReady bs) (results n ids)
+results-ready bs n [] is h = tt
+results-ready bs n (id ∷ ids) is h = ((h.0, is), results-ready bs n ids is h.1)
 
-one-more : (s : State) (id : ℕ) (text : List ℕ) → id < 2 ^ 31 → AreReady s → AreReady (Steps.replied s id (body.Error text))
-one-more s id text lt h = record {
-  waiters = h.waiters;
-  owed = all-push (IsReady s.builds) s.owed (out.Reply id (body.Error text)) h.owed (lt, tt);
-}
+-- a build that has begun is settled once it is closed, and for another none wait
+closes : (bs : List Building) (n : ℕ) (b : Building) → IsSome b.outcome → IsSome (build_at (slice_set bs n b) n).outcome ⊎ ((build_at bs n).waiting ≡ [])
+closes [] n b is = inr refl
+closes (c ∷ bs) zero b is = inl is
+closes (c ∷ bs) (suc n) b is = closes bs n b is
 
-begins : (s : State) (id key : ℕ) (options : Options) (few : Bool) → id < 2 ^ 31 → AreReady s → AreReady (begun_if s id key options few)
-begins s id key options false lt h = one-more s id _ lt h
-begins s id key options true lt h =
-    let b = Steps.fresh id key options in
-    record {
-      waiters = push-each (λ k c. c.waiter < 2 ^ 31) s.builds b h.waiters (λ k. lt);
-      owed =
-          all-map (IsReady s.builds) (IsReady (s.builds ++ b ∷ []))
-          (ready-stays s.builds (s.builds ++ b ∷ []) (settled_stay s.builds))
-          s.owed h.owed;
-    }
+-- ---- moves
+
+-- what a request is told at once is ready
+abbrev IsReadyMove : Move → Type 0
+IsReadyMove (make key options) = Unit {0}
+IsReadyMove (remove key) = Unit {0}
+IsReadyMove (begin n key options) = Unit {0}
+IsReadyMove (join n id) = IsSmall id
+IsReadyMove (owe o) = IsReady [] o
+IsReadyMove (keep n q a) = Unit {0}
+IsReadyMove (close key n o) = Unit {0}
+IsReadyMove take = Unit {0}
+
+abbrev AreReadyMoves : List Move → Type 0
+AreReadyMoves ms = AllByRecursion IsReadyMove ms
+
+-- what is ready without a build is ready with any
+ready-anywhere : (bs : List Building) (o : Out) → IsReady [] o → IsReady bs o
+ready-anywhere bs (out.Reply id body.Empty) h = h
+ready-anywhere bs (out.Reply id (body.Error text)) h = h
+ready-anywhere bs (out.Reply id (body.Result n)) h = absurd (none n h.1)
   where
-    settled_stay : (bs : List Building) (n : ℕ) → IsSome (build_at bs n).outcome → IsSome (build_at (bs ++ Steps.fresh id key options ∷ []) n).outcome
-    settled_stay [] n h = absurd (none n h)
-      where
-        none : (m : ℕ) → IsSome (build_at [] m).outcome → ⊥
-        none zero e = true≢false (sym e)
-        none (suc m) e = true≢false (sym e)
-    settled_stay (c ∷ bs) zero h = h
-    settled_stay (c ∷ bs) (suc n) h = settled_stay bs n h
+    none : (m : ℕ) → IsSome (build_at [] m).outcome → ⊥
+    none m e = true≢false (sym e)
 
-commands : (s : State) (id : ℕ) (a : Asked Command) → id < 2 ^ 31 → AreReady s → AreReady (after_command s id a)
-commands s id (Err text) lt h = one-more s id text lt h
-commands s id (Ok (command.Build key options)) lt h = begins s id key options (nat_lt (length s.builds) most_builds) lt h
+module _ (s : State) (h : AreReady s) where
+  -- what was owed is ready after a move
+  still : (m : Move) → AllByRecursion (IsReady (moved s m).builds) s.owed
+  still m = all-map (IsReady s.builds) (IsReady (moved s m).builds) (ready-stays s.builds (moved s m).builds (stays-settled s m)) s.owed h.owed
 
-arrives : (s : State) (p : Packet) (t : Bool) → p.id < 2 ^ 31 → AreReady s → AreReady (after_packet s p t)
-arrives s p false lt h = h
-arrives s p true lt h = commands s p.id (asked p.value) lt h
+  -- a build changes, and the same requests wait for it
+  waits : (n : ℕ) (b : Building) → AllByRecursion IsSmall b.waiting → (k : ℕ) → AllByRecursion IsSmall (build_at (slice_set s.builds n b) k).waiting
+  waits n b own = each-set (λ k c. AllByRecursion IsSmall c.waiting) s.builds n b h.waiting own
 
--- a build changes, and keeps its waiter and its outcome
-changes : (s : State) (n : ℕ) (b : Building) → n < length s.builds → b.waiter ≡ (build_at s.builds n).waiter → (IsSome (build_at s.builds n).outcome → IsSome b.outcome) → AreReady s
-    → AreReady (record { builds = slice_set s.builds n b; owed = s.owed; ended = s.ended })
-changes s n b lt same stay h = record {
-  waiters = set-each (λ k c. c.waiter < 2 ^ 31) s.builds n b lt h.waiters (subst (λ (w : ℕ). w < 2 ^ 31) (sym same) (h.waiters n));
+  closed_owes : (key n : ℕ) (o : Outcome) → AllByRecursion (IsReady (moved s (close key n o)).builds) (results n (build_at s.builds n).waiting)
+  closed_owes key n o = by (closes s.builds n (ended_by (build_at s.builds n) o) refl)
+    where
+      bs : List Building
+      bs = slice_set s.builds n (ended_by (build_at s.builds n) o)
+
+      by : IsSome (build_at bs n).outcome ⊎ ((build_at s.builds n).waiting ≡ []) → AllByRecursion (IsReady bs) (results n (build_at s.builds n).waiting)
+      by (inl is) = results-ready bs n (build_at s.builds n).waiting is (h.waiting n)
+      by (inr none) = subst (λ (ids : List ℕ). AllByRecursion (IsReady bs) (results n ids)) (sym none) tt
+
+  ready-moved : (m : Move) → IsReadyMove m → AreReady (moved s m)
+  ready-moved (make key options) is = record { waiting = h.waiting; owed = still (make key options) }
+  ready-moved (remove key) is = record { waiting = h.waiting; owed = still (remove key) }
+  ready-moved (begin n key options) is = record {
+    waiting = each-push (λ k c. AllByRecursion IsSmall c.waiting) s.builds (fresh key options) h.waiting (λ k none. tt);
+    owed = still (begin n key options);
+  }
+  ready-moved (join n id) is = record {
+    waiting = waits n (joined (build_at s.builds n) id) (all-push IsSmall (build_at s.builds n).waiting id (h.waiting n) is);
+    owed = still (join n id);
+  }
+  ready-moved (owe o) is = record { waiting = h.waiting; owed = all-push (IsReady s.builds) s.owed o h.owed (ready-anywhere s.builds o is) }
+  ready-moved (keep n q a) is = record { waiting = waits n (answered (build_at s.builds n) q a) (h.waiting n); owed = still (keep n q a) }
+  ready-moved (close key n o) is = record {
+    waiting = waits n (ended_by (build_at s.builds n) o) (h.waiting n);
+    owed = all-append (IsReady (moved s (close key n o)).builds) s.owed (results n (build_at s.builds n).waiting) (still (close key n o)) (closed_owes key n o);
+  }
+  ready-moved take is = record { waiting = h.waiting; owed = all-rest (IsReady s.builds) s.owed h.owed }
+
+ready-all : (s : State) (ms : List Move) → AreReadyMoves ms → AreReady s → AreReady (all_moved s ms)
+ready-all s [] all h = h
+ready-all s (m ∷ ms) all h = ready-all (moved s m) ms all.1 (ready-moved s h m all.0)
+
+-- ---- the moves of a packet
+
+module _ (id : ℕ) (lt : id < 2 ^ 31) where
+  one-reply : AreReadyMoves (done id)
+  one-reply = ((lt, tt), tt)
+
+  begun-ready : (met : Met) (key : ℕ) (options : Options) → AreReadyMoves (begun met id key options)
+  begun-ready met key options = (tt, (lt, tt))
+
+  builds_or : (met : Met) (key : ℕ) (options : Options) (stays : Bool) → AreReadyMoves (if stays then done id else begun met id key options)
+  builds_or met key options true = one-reply
+  builds_or met key options false = begun-ready met key options
+
+  rebuilds : (met : Met) (key : ℕ) (o : Option ℕ) → AreReadyMoves (joined_or_begun met id key o)
+  rebuilds met key (Some n) = (lt, tt)
+  rebuilds met key None = begun-ready met key (options_of met.context)
+
+  -- a build that is canceled, and then moves that are ready
+  cancels : (key : ℕ) (stays : Bool) (o : Option ℕ) (more : List Move) → AreReadyMoves more → AreReadyMoves (canceled key stays o ++ more)
+  cancels key stays None more h = h
+  cancels key true (Some n) more h = (tt, h)
+  cancels key false (Some n) more h = (tt, (tt, h))
+
+  effects : (met : Met) (c : Command) → AreReadyMoves (effect met id c)
+  effects met (command.Build key options) = (tt, builds_or met key options options.context)
+  effects met (command.Rebuild key) = rebuilds met key met.active
+  effects met (command.Cancel key) = cancels key (options_of met.context).context met.active (done id) one-reply
+  effects met (command.Dispose key) = cancels key true met.active (remove key ∷ done id) (tt, one-reply)
+  effects met (command.Watch key) = tt
+  effects met (command.Serve key port) = tt
+  effects met command.Ping = one-reply
+
+  refuses : (met : Met) (c : Command) (o : Option (List ℕ)) → AreReadyMoves (refused_or met id c o)
+  refuses met c (Some text) = ((lt, tt), tt)
+  refuses met c None = effects met c
+
+  requests : (met : ℕ → Met) (a : Asked Command) → AreReadyMoves (requested met id a)
+  requests met (Err text) = ((lt, tt), tt)
+  requests met (Ok c) = refuses (met (key_of c)) c (refusal (met (key_of c)) c)
+
+arrives : (met : ℕ → Met) (p : Packet) (t : Bool) → p.id < 2 ^ 31 → AreReadyMoves (if t then requested met p.id (asked p.value) else [])
+arrives met p false lt = tt
+arrives met p true lt = requests p.id lt met (asked p.value)
+
+records : (n : ℕ) (q : Question) (a : Answer) (o : Option Outcome) → AreReadyMoves (kept_unless n q a o)
+records n q a None = (tt, tt)
+records n q a (Some o) = tt
+
+settles : (at : Standing) (n : ℕ) (o : Outcome) (p : Option Outcome) → AreReadyMoves (closed_unless at n o p)
+settles at n o None = by at.stays
+  where
+    by : (stays : Bool) → AreReadyMoves (closed at.key stays n o)
+    by true = (tt, tt)
+    by false = (tt, (tt, tt))
+settles at n o (Some p) = tt
+
+-- ---- the work of an event
+
+-- a build changes, and keeps its waiting requests and its outcome
+changes : (s : State) (n : ℕ) (b : Building) → b.waiting ≡ (build_at s.builds n).waiting → b.outcome ≡ (build_at s.builds n).outcome → AreReady s → AreReady (Steps.changed s n b)
+changes s n b same outcome h = record {
+  waiting = waits s h n b (subst (λ (ids : List ℕ). AllByRecursion IsSmall ids) (sym same) (h.waiting n));
   owed =
       all-map (IsReady s.builds) (IsReady (slice_set s.builds n b))
-      (ready-stays s.builds (slice_set s.builds n b) (set-each (λ k c. IsSome (build_at s.builds k).outcome → IsSome c.outcome) s.builds n b lt (λ k e. e) stay))
+      (ready-stays s.builds (slice_set s.builds n b) (each-set (λ k c. IsSome (build_at s.builds k).outcome → IsSome c.outcome) s.builds n b (λ k e. e) (λ e. subst (λ (o : Option Outcome). IsSome o) (sym outcome) e)))
       s.owed h.owed;
 }
 
-claims : (s : State) (ro : Role) (j : Job) → names_job (first_job s ro) j ≡ true → AreReady s → AreReady (Steps.after_claim s ro j)
-claims s (role.Worker worker) (job.Scan n t) may h =
-    changes s n (task_claimed (build_at s.builds n) worker t) (scan-is s.builds n t (claim-is s worker (job.Scan n t) may)).begun refl (λ e. e) h
-claims s (role.Worker worker) (job.Link n) may h =
-    changes s n (link_claimed (build_at s.builds n) worker) (link-is s.builds n (claim-is s worker (job.Link n) may)).begun refl (λ e. e) h
-claims s (role.Door door) j may h = h
+claims : (s : State) (ro : Role) (j : Job) → AreReady s → AreReady (Steps.after_claim s ro j)
+claims s (role.Worker worker) (job.Scan n t) h = changes s n (task_claimed (build_at s.builds n) worker t) refl refl h
+claims s (role.Worker worker) (job.Link n) h = changes s n (link_claimed (build_at s.builds n) worker) refl refl h
+claims s (role.Door door) j h = h
 
-module _ (s : State) (h : AreReady s) (n : ℕ) (lt : n < length s.builds) where
-  records : (q : Question) (a : Answer) → AreReady (Steps.changed s n (recorded (build_at s.builds n) q a (build_at s.builds n).outcome))
-  records q a = changes s n (recorded (build_at s.builds n) q a (build_at s.builds n).outcome) lt (waiter (build_at s.builds n).outcome) (stay (build_at s.builds n).outcome) h
-    where
-      waiter : (o : Option Outcome) → (recorded (build_at s.builds n) q a o).waiter ≡ (build_at s.builds n).waiter
-      waiter None = refl
-      waiter (Some o) = refl
-
-      stay : (o : Option Outcome) → IsSome (build_at s.builds n).outcome → IsSome (recorded (build_at s.builds n) q a o).outcome
-      stay None e = e
-      stay (Some o) e = e
-
-  delivers : (worker : ℕ) (t : Task) (p : Product) → AreReady (Steps.changed s n (delivered (build_at s.builds n) worker t p (build_at s.builds n).outcome))
-  delivers worker t p = changes s n (delivered (build_at s.builds n) worker t p (build_at s.builds n).outcome) lt (waiter (build_at s.builds n).outcome) (stay (build_at s.builds n).outcome) h
-    where
-      waiter : (o : Option Outcome) → (delivered (build_at s.builds n) worker t p o).waiter ≡ (build_at s.builds n).waiter
-      waiter None = refl
-      waiter (Some o) = refl
-
-      stay : (o : Option Outcome) → IsSome (build_at s.builds n).outcome → IsSome (delivered (build_at s.builds n) worker t p o).outcome
-      stay None e = e
-      stay (Some o) e = e
-
-  settles : (worker : ℕ) (o : Outcome) → AreReady (Steps.after_settle s worker n o)
-  settles worker o = record { waiters = base.waiters; owed = owes (build_at s.builds n).outcome refl }
-    where
-      b : Building
-      b = settled (build_at s.builds n) worker o (build_at s.builds n).outcome
-
-      waiter : (p : Option Outcome) → (settled (build_at s.builds n) worker o p).waiter ≡ (build_at s.builds n).waiter
-      waiter None = refl
-      waiter (Some p) = refl
-
-      some : (p : Option Outcome) → (build_at s.builds n).outcome ≡ p → IsSome (settled (build_at s.builds n) worker o p).outcome
-      some None e = refl
-      some (Some p) e = ap (λ (q : Option Outcome). is_some q) e
-
-      now : IsSome b.outcome
-      now = some (build_at s.builds n).outcome refl
-
-      base : AreReady (record { builds = slice_set s.builds n b; owed = s.owed; ended = s.ended })
-      base = changes s n b lt (waiter (build_at s.builds n).outcome) (λ e. now) h
-
-      there : IsSome (build_at (slice_set s.builds n b) n).outcome
-      there = subst (λ (c : Building). IsSome c.outcome) (sym (get_or-set_same s.builds n b no_build lt)) now
-
-      owes : (p : Option Outcome) → (build_at s.builds n).outcome ≡ p → AllByRecursion (IsReady (slice_set s.builds n b)) (owed_by s.owed (build_at s.builds n).waiter n p)
-      owes None e = all-push (IsReady (slice_set s.builds n b)) s.owed (out.Reply (build_at s.builds n).waiter (body.Result n)) base.owed (h.waiters n, there)
-      owes (Some p) e = base.owed
-
-pops_one : (s : State) → AreReady s → AreReady (record s { owed = drop 1 s.owed })
-pops_one s h = record { waiters = h.waiters; owed = all-rest (IsReady s.builds) s.owed h.owed }
+delivers : (s : State) (worker n : ℕ) (t : Task) (p : Product) → AreReady s → AreReady (Steps.changed s n (delivered (build_at s.builds n) worker t p (build_at s.builds n).outcome))
+delivers s worker n t p h =
+    let b : Building = build_at s.builds n in
+    changes s n (delivered b worker t p b.outcome) (delivered-same (λ c. c.waiting) b worker t p b.outcome (λ c claims tasks. refl))
+    (delivered-same (λ c. c.outcome) b worker t p b.outcome (λ c claims tasks. refl)) h
 
 -- each step of an allowed event
 ready-step : (s : State) (e : Event) → AreReady s → allowed s e ≡ true → AreReady (after s e)
@@ -181,20 +237,18 @@ unfolding may_arrive
 ready-step s (event.Arrive packet) h may =
     let parts = both_parts (not s.ended) (may_arrive packet) may in
     let fit = both_parts (nat_lt packet.id id_limit) (is_proper max_depth packet.value) parts.1 in
-    arrives s packet packet.request (ltb-true packet.id id_limit fit.0) h
-ready-step s event.EndOfInput h may = record { waiters = h.waiters; owed = h.owed }
-ready-step s (event.Claim ro j) h may = claims s ro j may h
-ready-step s (event.Record worker n q a) h may = records s h n (ltb-true n (length s.builds) (both_parts (has_begun s n) (fits q a) may).0) q a
-ready-step s (event.Deliver worker n t p) h may =
-    delivers s h n (ltb-true n (length s.builds) (both_parts (has_begun s n) (has_task (build_at s.builds n) worker t && product_fits t p) may).0) worker t p
-ready-step s (event.Settle worker n o) h may = settles s h n (ltb-true n (length s.builds) (both_parts (has_begun s n) (may_settle (build_at s.builds n) worker o) may).0) worker o
-ready-step s event.Pop h may = pops_one s h
+    ready-all s (moves s (event.Arrive packet)) (arrives (met s) packet packet.request (ltb-true packet.id id_limit fit.0)) h
+ready-step s event.EndOfInput h may = record { waiting = h.waiting; owed = h.owed }
+ready-step s (event.Claim ro j) h may = claims s ro j h
+ready-step s (event.Record worker n q a) h may = ready-all s (moves s (event.Record worker n q a)) (records n q a (build_at s.builds n).outcome) h
+ready-step s (event.Deliver worker n t p) h may = delivers s worker n t p h
+ready-step s (event.Settle worker n o) h may =
+    let t : State = all_moved s (moves s (event.Settle worker n o)) in
+    changes t n (released (build_at t.builds n) worker) refl refl (ready-all s (moves s (event.Settle worker n o)) (settles (standing s n) n o (build_at s.builds n).outcome) h)
+ready-step s event.Pop h may = ready-moved s h take tt
 
 at_start : AreReady start
-at_start = record { waiters = λ n. small n; owed = tt }
-  where
-    small : (n : ℕ) → (build_at start.builds n).waiter < 2 ^ 31
-    small n = omega arith
+at_start = record { waiting = λ n. tt; owed = tt }
 
 ready-from : (s : State) (more : List Event) → AreReady s → is_legal_from s more ≡ true → AreReady (replay_from s more)
 ready-from s [] h legal = h

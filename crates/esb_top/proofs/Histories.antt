@@ -6,9 +6,10 @@ use Rattle.esb_base.specs.World.{Folder}
 use Rattle.esb_base.specs.Faults.{Rose}
 use Rattle.esb_core.specs.declared.event.Event.{Event}
 use Rattle.esb_core.specs.State.{State, start}
-use Rattle.esb_core.specs.Steps.{after}
+use Rattle.esb_core.specs.Moves.{Move, make, remove, begin, join, owe, keep, close, take}
+use Rattle.esb_core.specs.Steps.{after, moved, all_moved}
 use Rattle.esb_core.specs.History.{arrived, replay}
-use Rattle.esb_core.proofs.Pushes.{gathered-push}
+use Rattle.esb_core.proofs.Moving.{gathered-push}
 use Rattle.esb_core.proofs.Replays.{replay_from-append}
 use Rattle.esb_sound.specs.Each.{Each, Each-from}
 use Rattle.esb_sound.specs.Serial.{IsInTurn}
@@ -48,6 +49,21 @@ faults-push es e = sum_by-append (λ d. cond (is_fault_record d) 1 0) es (e ∷ 
 
 pub replay-push : (es : List Event) (e : Event) → replay (es ++ e ∷ []) ≡ after (replay es) e
 replay-push es e = replay_from-append start es (e ∷ [])
+
+moved-ended : (s : State) (m : Move) → (moved s m).ended ≡ s.ended
+moved-ended s (make key options) = refl
+moved-ended s (remove key) = refl
+moved-ended s (begin n key options) = refl
+moved-ended s (join n id) = refl
+moved-ended s (owe o) = refl
+moved-ended s (keep n q a) = refl
+moved-ended s (close key n o) = refl
+moved-ended s take = refl
+
+-- no move ends the input
+pub all_moved-ended : (s : State) (ms : List Move) → (all_moved s ms).ended ≡ s.ended
+all_moved-ended s [] = refl
+all_moved-ended s (m ∷ ms) = all_moved-ended (moved s m) ms ∙ moved-ended s m
 
 -- an event of work: nothing arrives or is sent, and the input doesn't end
 pub record IsOfWork (e : Event) : Type 0 where

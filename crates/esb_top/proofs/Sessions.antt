@@ -4,9 +4,10 @@ use Rattle.std.specs.List.{flat_map, list_any}
 use Rattle.std.proofs.lemmas.Bool.{false≢true}
 use Rattle.std.proofs.lemmas.List.Sums.{sum_by-append}
 use Rattle.esb_ask.specs.declared.outcome.Outcome.{Outcome}
+use Rattle.esb_core.specs.Moves.{Move}
 use Rattle.esb_core.specs.State.{State, start}
 use Rattle.esb_core.proofs.Laws.{reads-legal}
-use Rattle.esb_core.proofs.Pushes.{builds-push, or_later-None, outcome-push}
+use Rattle.esb_core.proofs.Moving.{moves-push}
 use Rattle.esb_sound.proofs.Hands.{in-turn-done}
 use Rattle.esb_core.proofs.Claims.{both_parts}
 use Rattle.esb_core.proofs.Replays.{is_legal_from-append}
@@ -19,7 +20,7 @@ use Rattle.esb_wire.specs.Stream.{BeginsWithNone}
 use Rattle.esb_wire.specs.Written.{written_frame}
 use Rattle.esb_core.specs.declared.event.Event.{Event}
 use Rattle.esb_core.specs.declared.event.Event.TheVariants as events
-use Rattle.esb_core.specs.History.{Begun, builds, is_legal, is_legal_from, outcome, owed, replay}
+use Rattle.esb_core.specs.History.{Begun, builds, builds_in, is_legal, is_legal_from, moves_in, outcome, outcome_in, owed, replay}
 use Rattle.esb_sound.specs.Sound.{Sound, IsSound}
 use Rattle.esb_sound.specs.Sent.{arrivals, sent, sent_packets}
 use Rattle.esb_sound.specs.Told.{AreTold, IsTold, RoseBy, faults}
@@ -37,7 +38,6 @@ use Rattle.esb_top.proofs.InOrder.{next-read}
 use Rattle.esb_top.specs.Output.{IsWritten, Wrote, FailedSince}
 use Rattle.esb_top.specs.Serving.{Ends, Outside, Refused}
 use Rattle.esb_top.specs.Session.{IsSession, IsCutAt, is_known, is_whole, place_if, place_of, status_by, status_if, status_of}
-use Rattle.esb_top.specs.Words.{greeting}
 use Rattle.esb_top.specs.Work.{Goes}
 use Rattle.esb_top.proofs.Histories.{replay-push, list_end, each-push, all-push, arrivals-push, sent-push, faults-push}
 use Rattle.esb_top.proofs.Outputs.{wrote-part}
@@ -66,8 +66,8 @@ pub wrote-nothing : (before : List ℕ) → IsWritten before before [] true
 wrote-nothing before = record { written = []; left = []; parts = refl; holds = sym (list_end before); all = λ e. refl }
 
 -- a session says nothing of whether a sink is whole
-any-whole : (ht kt st : Type 0) (was now : Outside) (status place : ℕ) (journal : List Event) → IsSession ht kt st was now status place journal → IsSession ht kt st was (record now { whole = true }) status place journal
-any-whole ht kt st was now status place journal s = record {
+any-whole : (ht kt st : Type 0) (greeting : List ℕ) (was now : Outside) (status place : ℕ) (journal : List Event) → IsSession ht kt st greeting was now status place journal → IsSession ht kt st greeting was (record now { whole = true }) status place journal
+any-whole ht kt st greeting was now status place journal s = record {
   known = s.known;
   legal = s.legal;
   ended = s.ended;
@@ -96,7 +96,7 @@ any-whole ht kt st was now status place journal s = record {
   unspent = s.unspent;
 }
 
-module _ (ht kt st : Type 0) (was mid : Outside) (old : Entries) (fresh : old.events ≡ []) (same_world : mid.world ≡ was.world) (same_faults : mid.host_faults ≡ was.host_faults) (same_unread : mid.unread ≡ was.unread)
+module _ (ht kt st : Type 0) (greeting : List ℕ) (was mid : Outside) (old : Entries) (fresh : old.events ≡ []) (same_world : mid.world ≡ was.world) (same_faults : mid.host_faults ≡ was.host_faults) (same_unread : mid.unread ≡ was.unread)
     (same_source : mid.source_faults ≡ was.source_faults) (same_gave : mid.gave ≡ was.gave) (same_puts : (path : List ℕ) → mid.puts path ≡ was.puts path) (greeted : Wrote kt was.holds mid.holds greeting mid.whole) (failed : FailedSince was.sink_faults mid.sink_faults mid.whole) (falls : was.sink_faults ≤ mid.sink_faults) where
   start_sound : Sound old.events
   start_sound = subst (λ (es : List Event). Sound es) (sym fresh) tt
@@ -156,7 +156,7 @@ module _ (ht kt st : Type 0) (was mid : Outside) (old : Entries) (fresh : old.ev
     start_read : st → was.unread ≡ flat_map frame (arrivals old.events) ++ mid.unread
     start_read t = subst (λ (es : List Event). was.unread ≡ flat_map frame (arrivals es) ++ mid.unread) (sym fresh) (sym same_unread)
 
-    pub session-refused : is_legal final ≡ true → Refused ht kt st mid now old new → IsSession ht kt st was now 5 0 final
+    pub session-refused : is_legal final ≡ true → Refused ht kt st mid now old new → IsSession ht kt st greeting was now 5 0 final
     session-refused legal r = record {
       known = refl;
       legal = legal;
@@ -201,11 +201,15 @@ module _ (ht kt st : Type 0) (was mid : Outside) (old : Entries) (fresh : old.ev
     final_owed : is_legal final ≡ true → IsAtRest new.events → owed final ≡ []
     final_owed legal rest = sym (reads-legal final legal).owed ∙ ap (λ (es : List Event). (replay es).owed) is ∙ ap (λ (s : State). s.owed) (replay-push new.events events.EndOfInput) ∙ rest.none_owed
 
+    -- the end of the input comes to no move
+    moves-end : moves_in final ≡ moves_in new.events
+    moves-end = ap moves_in is ∙ moves-push new.events events.EndOfInput ∙ list_end (moves_in new.events)
+
     builds-end : builds final ≡ builds new.events
-    builds-end = ap builds is ∙ builds-push new.events events.EndOfInput
+    builds-end = ap builds_in moves-end
 
     outcome-end : (n : ℕ) → outcome final n ≡ outcome new.events n
-    outcome-end n = ap (λ (es : List Event). outcome es n) is ∙ outcome-push new.events events.EndOfInput n ∙ or_later-None (outcome new.events n)
+    outcome-end n = ap (λ (ms : List Move). outcome_in ms n) moves-end
 
     final_settled : is_legal final ≡ true → IsAtRest new.events → (n : ℕ) → n < length (builds final) → IsSome (outcome final n)
     final_settled legal rest n lt =
@@ -219,7 +223,7 @@ module _ (ht kt st : Type 0) (was mid : Outside) (old : Entries) (fresh : old.ev
         → (status ≡ 4 → Rose was.sink_faults now.sink_faults) → (status ≡ 3 → Rose was.source_faults now.source_faults) → (status ≡ 2 → st → IsCutAt was.unread final)
         → (status ≡ 0 → st → was.unread ≡ flat_map frame (arrivals final)) → (status ≡ 0 → list_any is_refused final ≡ false) → (status ≡ 6 → reads ≡ budget)
         → ((status ≡ 0) ⊎ (status ≡ 3) → reads < budget)
-        → (status ≡ 2 → place ≡ arrived_bytes new.events) → ((status ≡ 2 → ⊥) → place ≡ 0) → IsSession ht kt st was now status place final
+        → (status ≡ 2 → place ≡ arrived_bytes new.events) → ((status ≡ 2 → ⊥) → place ≡ 0) → IsSession ht kt st greeting was now status place final
     made status place reads held known legal rest r puts read stopped sends write_fault read_fault malformed whole_input unrefused spent unspent placed unplaced = record {
       placed = λ two. placed two ∙ ap (λ (ps : List Packet). length (flat_map frame ps)) (sym (arrivals-end new.events final is));
       unplaced = unplaced;
@@ -252,7 +256,7 @@ module _ (ht kt st : Type 0) (was mid : Outside) (old : Entries) (fresh : old.ev
     by_ending : (ending : Ending) (refused : Bool) (held : List ℕ) (reads : ℕ) → refused ≡ list_any is_refused final → is_legal final ≡ true → IsAtRest new.events
         → HasRead mid.gave now.gave 0 reads → (ht → (path : List ℕ) → now.puts path ≡ mid.puts path) → (kt → IsWritten was.holds now.holds (greeting ++ sent new.events) true)
         → (st → was.unread ≡ flat_map frame (arrivals new.events) ++ (held ++ now.unread)) → EndsBy st (Rose mid.source_faults now.source_faults) (held ++ now.unread) held reads ending
-        → IsAt (arrived_bytes new.events) ending → IsSession ht kt st was now (status_by ending refused) (place_if true ending) final
+        → IsAt (arrived_bytes new.events) ending → IsSession ht kt st greeting was now (status_by ending refused) (place_if true ending) final
     by_ending endings.ReadFault refused held reads flag legal rest r puts w read e at =
         made 3 0 reads held refl legal rest r puts read
         (λ five. record { held = held; stop = stops.ReadFault; parts = final_read (held ++ now.unread) read; judged = e.1; by = λ four. refl })
@@ -280,7 +284,7 @@ module _ (ht kt st : Type 0) (was mid : Outside) (old : Entries) (fresh : old.ev
         → HasRead mid.gave now.gave 0 reads → (ht → (path : List ℕ) → now.puts path ≡ mid.puts path) → FailedSince was.sink_faults now.sink_faults whole
         → (kt → IsWritten was.holds now.holds (greeting ++ sent new.events) whole) → (st → was.unread ≡ flat_map frame (arrivals new.events) ++ (held ++ now.unread))
         → EndsBy st (Rose mid.source_faults now.source_faults) (held ++ now.unread) held reads ending → IsAt (arrived_bytes new.events) ending
-        → IsSession ht kt st was now (status_if whole ending refused) (place_if whole ending) final
+        → IsSession ht kt st greeting was now (status_if whole ending refused) (place_if whole ending) final
     if_whole false ending refused held reads flag legal rest r puts fell w read e at =
         made 4 0 reads held refl legal rest r puts read
         (λ five. record { held = held; stop = stop_of ending; parts = final_read (held ++ now.unread) read; judged = e.1; by = λ four. absurd (four refl) })
@@ -289,19 +293,19 @@ module _ (ht kt st : Type 0) (was mid : Outside) (old : Entries) (fresh : old.ev
     if_whole true ending refused held reads flag legal rest r puts fell w read e at = by_ending ending refused held reads flag legal rest r puts w read e at
 
     pub session-ok : (ending : Ending) (refused : Bool) → refused ≡ list_any is_refused final → is_legal final ≡ true → Ends ht kt st mid now old new ending
-        → IsSession ht kt st was now (status_if now.whole ending refused) (place_if now.whole ending) final
+        → IsSession ht kt st greeting was now (status_if now.whole ending refused) (place_if now.whole ending) final
     session-ok ending refused flag legal e =
         if_whole now.whole ending refused e.held e.reads flag legal e.rests e.read e.serving.puts (e.serving.failed was.sink_faults falls failed) (e.serving.wrote was.holds greeting start_wrote)
         (e.serving.stream was.unread start_read) e.ends e.at
 
   pub session-any : (new : Entries) (final : List Event) (now : Outside) (result : Result Ending Memory) (refused : Bool) → refused ≡ list_any is_refused final → final ≡ new.events ++ events.EndOfInput ∷ [] → is_legal final ≡ true
-      → IfOk result (λ ending. Ends ht kt st mid now old new ending) → OnErr result (Refused ht kt st mid now old new) → IsSession ht kt st was (record now { whole = true }) (status_of result now.whole refused) (place_of result now.whole) final
-  session-any new final now (Ok ending) refused flag is legal ok err = any-whole ht kt st was now _ _ final (session-ok new final now is ok.serving.goes ending refused flag legal ok)
-  session-any new final now (Err refusal) refused flag is legal ok err = any-whole ht kt st was now _ _ final (session-refused new final now is err.goes legal err)
+      → IfOk result (λ ending. Ends ht kt st mid now old new ending) → OnErr result (Refused ht kt st mid now old new) → IsSession ht kt st greeting was (record now { whole = true }) (status_of result now.whole refused) (place_of result now.whole) final
+  session-any new final now (Ok ending) refused flag is legal ok err = any-whole ht kt st greeting was now _ _ final (session-ok new final now is ok.serving.goes ending refused flag legal ok)
+  session-any new final now (Err refusal) refused flag is legal ok err = any-whole ht kt st greeting was now _ _ final (session-refused new final now is err.goes legal err)
 
 -- a session that never began, for want of memory
-pub session-none : (ht kt st : Type 0) (was : Outside) (journal : List Event) → journal ≡ [] → IsSession ht kt st was was 5 0 journal
-session-none ht kt st was journal none = subst (λ (es : List Event). IsSession ht kt st was was 5 0 es) (sym none) (record {
+pub session-none : (ht kt st : Type 0) (greeting : List ℕ) (was : Outside) (journal : List Event) → journal ≡ [] → IsSession ht kt st greeting was was 5 0 journal
+session-none ht kt st greeting was journal none = subst (λ (es : List Event). IsSession ht kt st greeting was was 5 0 es) (sym none) (record {
   known = refl;
   legal = refl;
   ended = λ not_five. absurd (not_five refl);

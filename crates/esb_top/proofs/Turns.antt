@@ -10,7 +10,7 @@ use Rattle.esb_wire.specs.Spelling.{frame}
 use Rattle.esb_core.specs.declared.event.Event.{Event}
 use Rattle.esb_core.specs.declared.event.Event.TheVariants as events
 use Rattle.esb_core.specs.State.{State}
-use Rattle.esb_core.specs.Steps.{after}
+use Rattle.esb_core.specs.Steps.{after, moves}
 use Rattle.esb_core.specs.History.{replay}
 use Rattle.esb_sound.specs.Each.{Each-from}
 use Rattle.esb_sound.specs.Serial.{InTurn, IsInTurn, next}
@@ -25,7 +25,7 @@ use Rattle.esb_top.specs.Output.{PopsOne, Wrote}
 use Rattle.esb_top.specs.Entries.{Entries}
 use Rattle.esb_top.specs.Serving.{Outside, Refused, Serving}
 use Rattle.esb_top.specs.Work.{Goes, Worked}
-use Rattle.esb_top.proofs.Histories.{list_end, each-push, all-push, arrivals-push, sent-push, faults-push, replay-push}
+use Rattle.esb_top.proofs.Histories.{list_end, each-push, all-push, arrivals-push, sent-push, faults-push, replay-push, all_moved-ended}
 
 module _ (tells : Type 0) (world : List Folder) where
   pub goes-refl : (f : ℕ) (es : List Event) → Goes tells world f f es es
@@ -58,7 +58,7 @@ module _ (tells : Type 0) (world : List Folder) where
   goes-pops f es fs (inr is) turn = goes-push f es fs events.Pop is tt tt turn (faults-push es events.Pop ∙ omega arith) refl
 
   arrive-ended : (s : State) (p : Packet) → (after s (events.Arrive p)).ended ≡ s.ended
-  arrive-ended s p = grind (arith)
+  arrive-ended s p = all_moved-ended s (moves s (events.Arrive p))
 
   pub goes-arrives : (f : ℕ) (es fs : List Event) → ArrivesOne es fs → (InTurn tells world es → InTurn tells world fs) → Goes tells world f f es fs
   goes-arrives f es fs (inl is) turn = subst (λ (ds : List Event). Goes tells world f f es ds) (sym is) (goes-refl f es)

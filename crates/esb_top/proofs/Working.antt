@@ -1,5 +1,5 @@
 -- What each event of the work leaves.
-use Rattle.std.proofs.Common.{map, zero, suc, ◌≡◌, ◌⊎◌, ℕ, ◌+◌, ◌<◌, ◌≤◌, Bool, true, false, ◌&&◌, List, [], ◌∷◌, ◌++◌, length, Option, None, Some, inl, inr, refl, sym, ap, subst, ◌∙◌, arith, nat_eq, ◌||◌, slice_set, length-set, slice_index_or}
+use Rattle.std.proofs.Common.{◌≡◌, ◌⊎◌, ℕ, ◌+◌, ◌<◌, ◌≤◌, Bool, true, false, ◌&&◌, List, [], ◌∷◌, ◌++◌, length, Option, None, Some, inl, inr, refl, sym, ap, subst, ◌∙◌, arith, nat_eq, ◌||◌, slice_set, length-set}
 use Rattle.std.specs.List.{list_any}
 use Rattle.std.proofs.lemmas.List.{get_or-set_same}
 use Rattle.std.proofs.lemmas.Bool.{false≢true, lt-ltb, eq-eqb}
@@ -14,7 +14,7 @@ use Rattle.esb_ask.specs.declared.product.Product.{Product}
 use Rattle.esb_ask.specs.declared.outcome.Outcome.TheVariants as outcomes
 use Rattle.esb_ask.specs.Tasks.{same_task, product_fits}
 use Rattle.esb_ask.proofs.SameTask.{same_task-refl}
-use Rattle.esb_ask.specs.Table.{kept, same_question}
+use Rattle.esb_ask.specs.Table.{same_question}
 use Rattle.esb_core.specs.declared.event.Job.{Job}
 use Rattle.esb_core.specs.declared.event.Job.TheVariants as job
 use Rattle.esb_core.specs.declared.event.Role.TheVariants as role
@@ -23,10 +23,11 @@ use Rattle.esb_ask.proofs.Tables.{same-refl}
 use Rattle.esb_core.specs.declared.event.Event.{Event}
 use Rattle.esb_core.specs.declared.event.Event.TheVariants as event
 use Rattle.esb_core.specs.State.{Building, State, build_at, no_build}
-use Rattle.esb_core.specs.Steps.{after, recorded, is_claim, task_claimed, link_claimed}
+use Rattle.esb_core.specs.Moves.{keep, kept_unless}
+use Rattle.esb_core.specs.Steps.{after, moved, all_moved, moves, answered, is_claim, task_claimed, link_claimed}
 use Rattle.esb_core.specs.Allowed.{allowed, has_task, has_begun, has_claim, is_linker, first_job, first_from, job_of, names_job, same_job}
-use Rattle.esb_core.specs.History.{Begun, build, no_begun, table, is_legal, replay}
-use Rattle.esb_core.proofs.Readings.{begun_of}
+use Rattle.esb_core.specs.History.{Begun, build, table, is_legal, moves_in, replay}
+use Rattle.esb_core.proofs.Readings.{begun_of, build-read}
 use Rattle.esb_core.proofs.Laws.{reads-legal}
 use Rattle.esb_scan.specs.declared.run.Run.TheVariants as runs
 use Rattle.esb_scan.specs.Run.{run, trail}
@@ -39,17 +40,12 @@ use Rattle.esb_top.specs.Work.{Worked, AtWork, AtLink, Answered, Linked}
 use Rattle.esb_scan.specs.Complete.{IsComplete}
 use Rattle.esb_top.specs.Turn.{IsFree}
 use Rattle.esb_top.proofs.InOrder.{claim-in_turn, deliver-in_turn, doing-is, record-in_turn, refusal-in_turn, settle-in_turn}
-use Rattle.esb_top.proofs.Histories.{IsOfWork, replay-push, worked-push, worked-trans}
+use Rattle.esb_top.proofs.Histories.{IsOfWork, all_moved-ended, replay-push, worked-push, worked-trans}
 
 -- ---- the direct answers about a legal list
 
-at_map : (bs : List Building) (k : ℕ) → slice_index_or (map begun_of bs) k no_begun ≡ begun_of (build_at bs k)
-at_map [] k = refl
-at_map (c ∷ bs) zero = refl
-at_map (c ∷ bs) (suc k) = at_map bs k
-
 pub build-is : (es : List Event) (n : ℕ) → is_legal es ≡ true → build es n ≡ begun_of (build_at (replay es).builds n)
-build-is es n legal = ap (λ (bs : List Begun). slice_index_or bs n no_begun) (sym (reads-legal es legal).begun) ∙ at_map (replay es).builds n
+build-is es n legal = build-read (replay es) (moves_in es) n (reads-legal es legal)
 
 pub options-are : (es : List Event) (n : ℕ) → is_legal es ≡ true → (build es n).options ≡ (build_at (replay es).builds n).options
 options-are es n legal = ap (λ (b : Begun). b.options) (build-is es n legal)
@@ -59,24 +55,27 @@ table-is es n legal = sym ((reads-legal es legal).tables n)
 
 -- ---- an answer
 
-recorded-open : (b : Building) (q : Question) (a : Answer) (o : Option Outcome) → o ≡ None → recorded b q a o ≡ record b { table = kept b.table q a }
-recorded-open b q a o e = ap (λ p. recorded b q a p) e
+-- an answer to a build that isn't settled is kept
+record-after : (s : State) (n : ℕ) (q : Question) (a : Answer) → (build_at s.builds n).outcome ≡ None → after s (event.Record 0 n q a) ≡ moved s (keep n q a)
+record-after s n q a none = ap (λ (o : Option Outcome). all_moved s (kept_unless n q a o)) none
 
 pub record-leaves : (s : State) (n : ℕ) (q : Question) (a : Answer) → n < length s.builds → (build_at s.builds n).outcome ≡ None
-    → build_at (after s (event.Record 0 n q a)).builds n ≡ record (build_at s.builds n) { table = kept (build_at s.builds n).table q a }
-record-leaves s n q a lt none = get_or-set_same s.builds n (recorded (build_at s.builds n) q a (build_at s.builds n).outcome) no_build lt ∙ recorded-open (build_at s.builds n) q a (build_at s.builds n).outcome none
+    → build_at (after s (event.Record 0 n q a)).builds n ≡ answered (build_at s.builds n) q a
+record-leaves s n q a lt none = ap (λ (u : State). build_at u.builds n) (record-after s n q a none) ∙ get_or-set_same s.builds n (answered (build_at s.builds n) q a) no_build lt
 
 pub at-record : (s : State) (n : ℕ) (t : Task) (q : Question) (a : Answer) → AtWork s n t → AtWork (after s (event.Record 0 n q a)) n t
 at-record s n t q a at =
     let same = record-leaves s n q a at.begun at.unsettled in
     record {
-      begun = omega (arith, at.begun, length-set s.builds n (recorded (build_at s.builds n) q a (build_at s.builds n).outcome));
+      begun =
+          let long : length (after s (event.Record 0 n q a)).builds ≡ length s.builds = ap (λ (u : State). length u.builds) (record-after s n q a at.unsettled) ∙ length-set s.builds n (answered (build_at s.builds n) q a) in
+          omega (arith, at.begun, long);
       unsettled = ap (λ (b : Building). b.outcome) same ∙ at.unsettled;
       claimed = ap (λ (b : Building). has_task b 0 t) same ∙ at.claimed;
     }
 
 record-work : (n : ℕ) (q : Question) (a : Answer) → IsOfWork (event.Record 0 n q a)
-record-work n q a = record { none_arrived = refl; none_sent = λ g. refl; goes_on = λ s. refl }
+record-work n q a = record { none_arrived = refl; none_sent = λ g. refl; goes_on = λ s. all_moved-ended s (moves s (event.Record 0 n q a)) }
 
 fault-is : (a : Answer) → is_fault a ≡ true → a ≡ answers.Fault
 fault-is answers.File e = absurd (false≢true e)
@@ -137,7 +136,7 @@ pub settled-step : (tells : Type 0) (world : List Folder) (f : ℕ) (old : Entri
 settled-step tells world f old new n o legal right turn is =
     let right_now : IsLinked (build old.events n).options (table old.events n) o =
     subst (λ (op : Options). IsLinked op (table old.events n) o) (sym (options-are old.events n legal)) (subst (λ (tb : List (Question × Answer)). IsLinked (build_at (replay old.events).builds n).options tb o) (sym (table-is old.events n legal)) right) in
-    worked-push tells world f f old.events new (event.Settle 0 n o) is (record { none_arrived = refl; none_sent = λ g. refl; goes_on = λ s. refl })
+    worked-push tells world f f old.events new (event.Settle 0 n o) is (record { none_arrived = refl; none_sent = λ g. refl; goes_on = λ s. all_moved-ended s (moves s (event.Settle 0 n o)) })
     (λ h. right_now) (λ h. tt) (turn right_now) (λ e. absurd (false≢true e)) (omega arith)
 
 -- a build that is settled for want of memory

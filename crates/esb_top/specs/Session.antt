@@ -18,7 +18,6 @@ use Rattle.esb_top.specs.declared.session.Ending.TheVariants as endings
 use Rattle.esb_top.specs.Input.{Begins, IsStopped}
 use Rattle.esb_top.specs.Output.{IsWritten}
 use Rattle.esb_top.specs.Serving.{Outside}
-use Rattle.esb_top.specs.Words.{greeting}
 
 abbrev pub status_by : Ending → Bool → ℕ
 status_by endings.ReadFault refused = 3
@@ -65,7 +64,7 @@ abbrev pub HasEnded : List Event → Type 0
 HasEnded journal = (before : List Event) × (journal ≡ before ++ events.EndOfInput ∷ [])
 
 -- A session: the journal is one legal and right history, its answers are the host's own, the sink holds what the journal sent, and each status has its cause.
-pub record IsSession (host_tells sink_tells source_tells : Type 0) (was now : Outside) (status place : ℕ) (journal : List Event) : Type 0 where
+pub record IsSession (host_tells sink_tells source_tells : Type 0) (greeting : List ℕ) (was now : Outside) (status place : ℕ) (journal : List Event) : Type 0 where
   pub known : is_known status ≡ true
   -- how many reads gave a byte
   pub reads : ℕ
@@ -83,7 +82,7 @@ pub record IsSession (host_tells sink_tells source_tells : Type 0) (was now : Ou
   pub counted : RoseBy (faults journal) was.host_faults now.host_faults
   -- without a fault of the host and want of memory, it is the one history that these packets and folders have
   pub serial : host_tells → (status ≡ 5 → ⊥) → lapses journal ≡ 0 → IsSerial was.world (arrivals journal) journal
-  -- the length and the version text, and then what the journal sent: all of it, or a first part
+  -- the greeting, and then what the journal sent: all of it, or a first part
   pub sends : sink_tells → IsWritten was.holds now.holds (greeting ++ sent journal) (is_whole status)
   pub write_fault : status ≡ 4 → Rose was.sink_faults now.sink_faults
   pub read_fault : status ≡ 3 → Rose was.source_faults now.source_faults

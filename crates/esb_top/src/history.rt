@@ -50,7 +50,7 @@ impl History {
     pub(crate) fn new(alloc: Global) -> Result<History, Memory>
         ensures { IfOk result (λ h. h ≡ record { events = []; promised = 1 }) }
     {
-        let machine = Machine::new(alloc);
+        let machine = Machine::new(alloc, true, 0)?;
         let events = Vec::with_capacity(alloc, 1)?;
         Ok(History {
             machine,

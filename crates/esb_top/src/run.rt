@@ -1,19 +1,17 @@
 //! The top call of a session on one thread.
-ghost use Rattle.std.specs.Prelude.{◌≡◌, ℕ, ◌<◌, [], None, Some, true};
-ghost use Rattle.esb_top.specs.Words.{bad_place, bad_word_line};
-ghost use Rattle.esb_top.specs.Output.{IsPut};
+ghost use Rattle.std.specs.Prelude.{◌≡◌, ℕ, ◌<◌, ◌≤◌, ◌^◌, length, [], None, Some, true};
+ghost use Rattle.esb_wire.specs.Spelling.{counted};
+ghost use Rattle.esb_top.specs.Words.{bad_place, bad_word_line, greeting};
+ghost use Rattle.esb_top.specs.Output.{FailedSince, IsPut, Wrote};
 ghost use Rattle.esb_top.specs.Session.{IsSession, place_of, status_of};
 
 use crate::history::History;
 use crate::output::put;
 use crate::session::{Ending, serve};
-use crate::words::{BadWord, read_words};
+use crate::words::{BadWord, first_text, read_words};
 use esb_base::{Host, List, Memory, Sink, Source, Text};
 use esb_core::Journal;
 use std::alloc::Global;
-
-/// What the service sends first: a length, and the text of its version.
-const GREETING: [u8; 17] = *b"\x0d\0\0\0esb-profile-1";
 
 /// How a session went.
 #[derive(Drop)]
@@ -80,32 +78,47 @@ fn place_of(ending: Result<Ending, Memory>, whole: bool) -> u64
 
 /// The line that tells a bad word.
 fn bad_word_line(place: u32) -> [u8; 16]
-    requires { place < 3 }
+    requires { place < 4 }
     ensures { result ≡ bad_word_line place }
 {
     match place {
         0 => *b"esb: bad word 0\n",
         1 => *b"esb: bad word 1\n",
-        _ => *b"esb: bad word 2\n",
+        2 => *b"esb: bad word 2\n",
+        _ => *b"esb: bad word 3\n",
     }
 }
 
 /// Tells a bad word on the sink.
 fn put_line<K: Sink>(sink: &mut K, place: u32)
-    requires { place < 3 }
+    requires { place < 4 }
     ensures { IsPut K.tells (K.holds sink.old) (K.holds sink.new) (K.faults sink.old) (K.faults sink.new) (bad_word_line place) }
 {
     let _ = put(sink, &bad_word_line(place), true);
 }
 
-/// Serves a client until its input ends.
+/// Writes the length of a text, and the text. It tells whether no write has failed.
+fn greet<K: Sink>(sink: &mut K, text: &[u8]) -> bool
+    requires { length text.now ≤ 2 ^ 28 }
+    ensures wrote { Wrote K.tells (K.holds sink.old) (K.holds sink.new) (counted text.now) result }
+    ensures failed { FailedSince (K.faults sink.old) (K.faults sink.new) result }
+    ensures never_falls { K.faults sink.old ≤ K.faults sink.new }
+{
+    let length = (text.len() as u32).to_le_bytes();
+    let whole = put(sink, &length, true);
+    put(sink, text, whole)
+}
+
+/// Serves a client until its input ends. The text is sent first.
 fn converse<S: Source, K: Sink, H: Host>(
     alloc: Global,
+    text: &[u8],
     source: &mut S,
     sink: &mut K,
     host: &mut H,
 ) -> Session
-    ensures { IsSession H.tells K.tells S.tells
+    requires { length text.now ≤ 2 ^ 28 }
+    ensures { IsSession H.tells K.tells S.tells (counted text.now)
         (record { world = H.world host.old; host_faults = H.faults host.old; puts = H.put_at host.old; holds = K.holds sink.old; sink_faults = K.faults sink.old; whole = true; unread = S.left source.old; source_faults = S.faults source.old; gave = S.gave source.old })
         (record { world = H.world host.new; host_faults = H.faults host.new; puts = H.put_at host.new; holds = K.holds sink.new; sink_faults = K.faults sink.new; whole = true; unread = S.left source.new; source_faults = S.faults source.new; gave = S.gave source.new })
         result.status result.place result.journal.events }
@@ -113,7 +126,7 @@ fn converse<S: Source, K: Sink, H: Host>(
     let Ok(mut history) = History::new(alloc) else {
         return end_with(alloc, 5, 0, no_events(alloc));
     };
-    let mut whole = put(sink, &GREETING, true);
+    let mut whole = greet(sink, text);
     let ending = serve(alloc, &mut history, source, sink, host, &mut whole);
     history.end_of_input();
     history.is_legal();
@@ -122,9 +135,10 @@ fn converse<S: Source, K: Sink, H: Host>(
     end_with(alloc, status, place, history.into_journal())
 }
 
-/// Runs the words: `service --serial` serves a client on one thread.
+/// Runs the words: `service --serial` serves a client on one thread. The client is sent first the length of a text, and the text:
+/// that of the word `--handshake=TEXT`, or else the version text.
 ///
-/// A word that is none of the known ones is told on the sink, and ends the session with status 1.
+/// A word that is wrong or missing is told on the sink, and ends the session with status 1.
 pub fn run_serial<S: Source, K: Sink, H: Host>(
     alloc: Global,
     words: &[Text],
@@ -137,13 +151,13 @@ pub fn run_serial<S: Source, K: Sink, H: Host>(
     ensures bad_journal { (place : ℕ) → bad_place words.now ≡ Some place → result.journal.events ≡ [] }
     ensures bad_line { (place : ℕ) → bad_place words.now ≡ Some place → IsPut K.tells (K.holds sink.old) (K.holds sink.new) (K.faults sink.old) (K.faults sink.new) (bad_word_line place) }
     ensures bad_rest { (place : ℕ) → bad_place words.now ≡ Some place → (source.new ≡ source.old) × (host.new ≡ host.old) }
-    ensures session { bad_place words.now ≡ None → IsSession H.tells K.tells S.tells
+    ensures session { bad_place words.now ≡ None → IsSession H.tells K.tells S.tells (greeting words.now)
         (record { world = H.world host.old; host_faults = H.faults host.old; puts = H.put_at host.old; holds = K.holds sink.old; sink_faults = K.faults sink.old; whole = true; unread = S.left source.old; source_faults = S.faults source.old; gave = S.gave source.old })
         (record { world = H.world host.new; host_faults = H.faults host.new; puts = H.put_at host.new; holds = K.holds sink.new; sink_faults = K.faults sink.new; whole = true; unread = S.left source.new; source_faults = S.faults source.new; gave = S.gave source.new })
         result.status result.place result.journal.events }
 {
     match read_words(words) {
-        Ok(Words) => converse(alloc, source, sink, host),
+        Ok(_) => converse(alloc, first_text(words), source, sink, host),
         Err(BadWord { place }) => {
             put_line(sink, place);
             end_with(alloc, 1, 0, no_events(alloc))

@@ -1,7 +1,7 @@
 //! The jobs that are open.
 ghost use Rattle.std.specs.Prelude.{◌≡◌, IfOk};
 ghost use Rattle.std.specs.List.{list_all};
-ghost use Rattle.esb_core.specs.Allowed.{first_from, first_job, is_closing, is_settled, job_told};
+ghost use Rattle.esb_core.specs.Allowed.{first_from, first_job, is_closing, is_settled, job_told, names_job};
 ghost use Rattle.esb_core.specs.Kept.{state_of, IsKept};
 
 use crate::build::Build;
@@ -38,8 +38,21 @@ impl Tables {
         Ok(None)
     }
 
+    /// Whether a job is the first open one of a worker. It takes no memory.
+    pub(crate) fn is_first(&self, job: &Job) -> bool
+        requires { IsKept self.now }
+        ensures { result ≡ names_job (first_from 0 self.now.builds.items) job.now }
+    {
+        for number in self.passed..self.builds.len() {
+            if self.builds[number].has_job() {
+                return self.builds[number].is_job(number as u32, job);
+            }
+        }
+        false
+    }
+
     /// The first open job of a role.
-    pub(crate) fn first_job(&self, role: Role) -> Result<Option<Job>, Memory>
+    fn first_job(&self, role: Role) -> Result<Option<Job>, Memory>
         requires { IsKept self.now }
         ensures { IfOk result (λ job. job ≡ first_job (state_of self.now) role) }
     {

@@ -1,6 +1,6 @@
 //! One step, by its event.
 ghost use Rattle.std.specs.Prelude.{◌≡◌, ◌<◌, true, length, IfOk, OnOk, OnErr, IsOk};
-ghost use Rattle.esb_core.specs.Allowed.{allowed, same_job, takes_none};
+ghost use Rattle.esb_core.specs.Allowed.{allowed, takes_none};
 ghost use Rattle.esb_core.specs.Kept.{state_of, IsKept};
 ghost use Rattle.esb_core.specs.State.{build_at};
 ghost use Rattle.esb_core.specs.Steps.{after, after_claim, told_of};
@@ -12,26 +12,15 @@ use crate::view::View;
 use esb_ask::{Outcome, Product, Task};
 use esb_base::Memory;
 
-/// Whether two jobs are the same.
-fn same_job(job: &Job, other: &Job) -> bool
-    ensures { result ≡ same_job job.now other.now }
-{
-    match (job, other) {
-        (Job::Scan { build, task }, Job::Scan { build: n, task: t }) => build == n && task.is(t),
-        (Job::Link { build }, Job::Link { build: n }) => build == n,
-        _ => false,
-    }
-}
-
 impl Tables {
     /// Whether this is the first open job of the role.
-    fn may_claim(&self, role: Role, job: &Job) -> Result<bool, Memory>
+    fn may_claim(&self, role: Role, job: &Job) -> bool
         requires { IsKept self.now }
-        ensures { IfOk result (λ answer. answer ≡ allowed (state_of self.now) (Event.Claim role job.now)) }
+        ensures { result ≡ allowed (state_of self.now) (Event.Claim role job.now) }
     {
-        match self.first_job(role)? {
-            None => Ok(false),
-            Some(first) => Ok(same_job(&first, job)),
+        match role {
+            Role::Worker(_) => self.is_first(job),
+            Role::Door(_) => false,
         }
     }
 
@@ -53,33 +42,33 @@ impl Tables {
         }
     }
 
-    /// Whether an event may come now.
-    pub(crate) fn allows(&self, event: &Event) -> Result<bool, Memory>
+    /// Whether an event may come now. It takes no memory.
+    pub(crate) fn allows(&self, event: &Event) -> bool
         requires { IsKept self.now }
-        ensures { IfOk result (λ answer. answer ≡ allowed (state_of self.now) event.now) }
+        ensures { result ≡ allowed (state_of self.now) event.now }
     {
         match event {
-            Event::Arrive(packet) => Ok(!self.ended && may_arrive(packet)),
-            Event::EndOfInput => Ok(!self.ended),
+            Event::Arrive(packet) => !self.ended && may_arrive(packet),
+            Event::EndOfInput => !self.ended,
             Event::Claim { role, job } => self.may_claim(*role, job),
             Event::Record {
                 worker: _,
                 build,
                 question,
                 answer,
-            } => Ok((*build as usize) < self.builds.len() && question.fits(answer)),
+            } => (*build as usize) < self.builds.len() && question.fits(answer),
             Event::Deliver {
                 worker,
                 build,
                 task,
                 product,
-            } => Ok(self.may_deliver(*worker, *build, task, product)),
+            } => self.may_deliver(*worker, *build, task, product),
             Event::Settle {
                 worker,
                 build,
                 outcome,
-            } => Ok(self.may_settle(*worker, *build, outcome)),
-            Event::Pop => Ok(!self.replies.is_empty()),
+            } => self.may_settle(*worker, *build, outcome),
+            Event::Pop => !self.replies.is_empty(),
         }
     }
 

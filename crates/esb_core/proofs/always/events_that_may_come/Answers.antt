@@ -1,5 +1,6 @@
 use Rattle.esb_core.proofs.Tells.{may-arrive-by, may-end-by, may-record-by, may-pop-by, closes-by}
 use Rattle.esb_core.proofs.Held.{may-deliver-by, may-link-by, may-link-errors-by, may-cancel-by, may-give_up-by}
+use Rattle.esb_core.proofs.Work.{may-claim-by}
 use Rattle.esb_core.proofs.always.events_that_may_come.Goals as goal
 
 pub returns-clause-arrive : goal.returns-clause-arrive
@@ -7,6 +8,9 @@ returns-clause-arrive c = may-arrive-by
 
 pub returns-clause-end_of_input : goal.returns-clause-end_of_input
 returns-clause-end_of_input c = may-end-by
+
+pub returns-clause-claim : goal.returns-clause-claim
+returns-clause-claim c = may-claim-by
 
 pub returns-clause-record_of : goal.returns-clause-record_of
 returns-clause-record_of c = may-record-by

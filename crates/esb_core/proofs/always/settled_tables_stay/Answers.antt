@@ -2,4 +2,4 @@ use Rattle.esb_core.proofs.Firsts.{table-stays}
 use Rattle.esb_core.proofs.always.settled_tables_stay.Goals as goal
 
 pub returns : goal.returns
-returns c = table-stays
+returns c = λ events more n o is. table-stays events more n o is

@@ -16,5 +16,5 @@ with_first tasks now whole n left more e so_far is =
 
 pub loop-number-preserved : goal.loop-number-preserved
 loop-number-preserved c =
-    with_first c.loop-number.tasks.items c.push.new.self.items _ c.loop-number.number (c.args.entries - c.loop-number.number) (c.args.entries - (c.loop-number.number + 1))
+    with_first c.loop-number.tasks.items c.push.new.self.items _ c.loop-number.number (c.in_ok-count.count - c.loop-number.number) (c.in_ok-count.count - (c.loop-number.number + 1))
     (omega (arith, c.loop-number-test.true)) c.loop-number.invariant c.in_ok-push.ensures.items

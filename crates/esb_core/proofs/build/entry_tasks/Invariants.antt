@@ -3,4 +3,4 @@ use Rattle.esb_core.specs.Steps.{entry_tasks, entry_tasks_from}
 use Rattle.esb_core.proofs.build.entry_tasks.Given as goal
 
 abbrev pub invariant-loop-number : goal.invariant-loop-number
-invariant-loop-number l = l.tasks.items ++ entry_tasks_from l.number (l.entries - l.number) ≡ entry_tasks l.entries
+invariant-loop-number l = l.tasks.items ++ entry_tasks_from l.number (l.count - l.number) ≡ entry_tasks l.count

@@ -1,6 +1,6 @@
 use Rattle.std.proofs.Common.{None, lit<}
 use Rattle.std.proofs.lemmas.Str.Pattern.{strip_prefix_char}
-use Rattle.esb_flags.proofs.Words.{not_below}
+use Rattle.esb_flags.proofs.Cuts.{not_below}
 use Rattle.esb_flags.proofs.unbuilt.is_folder.Goals as goal
 
 pub returns-in-None : goal.returns-in-None

@@ -1,22 +1,42 @@
-use Rattle.std.proofs.Common.{◌≡◌, nat_lt, length, false, ap, arith}
-use Rattle.std.proofs.lemmas.Bool.{le-ltb}
-use Rattle.esb_core.specs.Kept.{active, load}
-use Rattle.esb_core.specs.Steps.{most_builds}
-use Rattle.esb_core.specs.Queue.{Queue}
-use Rattle.esb_core.proofs.Keeping.{active-push, settled-push}
+use Rattle.std.proofs.Common.{◌≡◌, length, ◌++◌, ◌∷◌, [], ℕ, refl, sym, ap, subst, ◌∙◌, arith}
+use Rattle.esb_core.specs.Kept.{state_of, load}
+use Rattle.esb_core.specs.Known.{Known}
+use Rattle.esb_core.specs.Moves.{begun}
+use Rattle.esb_core.specs.Order.{IsOrdered}
+use Rattle.esb_core.specs.State.{Building, State}
+use Rattle.esb_core.specs.Steps.{fresh, met, all_moved}
+use Rattle.esb_core.proofs.Keeping.{kept-begun, joined-last, same-state}
+use Rattle.esb_core.proofs.Orders.{begins-fit, all_moved-ordered}
 use Rattle.esb_core.proofs.tables.Tables.begin.Goals as goal
 
-pub returns-then-len-ge-MOST_BUILDS-clause-ok : goal.returns-then-len-ge-MOST_BUILDS-clause-ok
-returns-then-len-ge-MOST_BUILDS-clause-ok c =
-    let full : nat_lt (length c.args.self.now.builds.items) most_builds ≡ false = le-ltb _ _ (omega arith) in
-    rw full (rw c.in_ok-text.ensures at c.reply.ensures.ok)
+begun-state : (c : goal.After-push_reserved) → state_of (record {
+  alloc = c.build.new.self.alloc;
+  contexts = c.begin.new.self;
+  builds = c.push_reserved.new.self;
+  passed = c.build.new.self.passed;
+  replies = c.build.new.self.replies;
+  ended = c.build.new.self.ended;
+}) ≡ all_moved (state_of c.args.self.now) (begun (met (state_of c.args.self.now) c.args.key) c.args.id c.args.key c.args.options)
+begun-state c =
+    let same = c.in_ok-build.ensures.same in
+    same-state
+    (ap (λ (k : Known). k.contexts) c.in_ok-begin.ensures.ok ∙ ap (λ (s : State). s.contexts) same)
+    (ap (λ (k : Known). k.active) c.in_ok-begin.ensures.ok ∙ ap (λ (s : State). s.active ++ (c.args.key, c.next_build-number.result) ∷ []) same
+    ∙ ap (λ (n : ℕ). c.args.self.now.contexts.active ++ (c.args.key, n) ∷ []) (c.next_build-number.ensures ∙ ap (λ (s : State). length s.builds) same))
+    (c.push_reserved.ensures.items ∙ ap (λ (s : State). s.builds ++ c.in_ok-build.build ∷ []) same ∙ ap (λ (b : Building). c.args.self.now.builds.items ++ b ∷ []) c.in_ok-build.ensures.build
+    ∙ sym (joined-last c.args.self.now.builds.items (fresh c.args.key c.args.options) c.args.id))
+    (ap (λ (s : State). s.owed) same) (ap (λ (s : State). s.ended) same)
+
+pub returns-clause-ok : goal.returns-clause-ok
+returns-clause-ok c = begun-state c
 
 pub returns-clause-kept : goal.returns-clause-kept
 returns-clause-kept c =
-    let old = c.requires.kept in
-    record {
-      room = omega (arith, old.room, ap active c.in_ok-push.ensures.items, active-push c.args.self.now.builds.items c.in_ok-build.build, ap load c.in_ok-build.ensures, ap (λ (q : Queue). q.promised) c.in_ok-promise.ensures.ok);
-      few = omega (arith, c.push.ensures.len, c.if-len-ge-MOST_BUILDS.false, c.len.ensures);
-      passed = omega (arith, c.push.ensures.len, old.passed);
-      over = rw c.in_ok-push.ensures.items (settled-push _ _ c.in_ok-build.build old.passed old.over);
-    }
+    let s : State = state_of c.args.self.now in
+    let fit = begins-fit s c.requires.kept.ordered c.args.id c.args.key c.args.options (record { number = refl; few = c.requires.room; idle = c.requires.idle; inside = c.requires.inside }) in
+    let ordered = all_moved-ordered s (begun (met s c.args.key) c.args.id c.args.key c.args.options) fit c.requires.kept.ordered in
+    let one = ap load c.in_ok-build.ensures.build in
+    let few = ap (λ (t : State). length t.builds) c.in_ok-build.ensures.same in
+    let room = c.requires.room in
+    kept-begun c.build.new.self _ c.in_ok-build.build c.push_reserved.ensures.items refl (omega (arith, one, c.in_ok-build.ensures.promised)) (omega (arith, few, room)) (subst IsOrdered (sym (begun-state c)) ordered)
+    c.in_ok-build.ensures.kept

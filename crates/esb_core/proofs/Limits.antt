@@ -1,0 +1,187 @@
+-- There are no more contexts, builds and waiting requests than the limits.
+use Rattle.std.proofs.Common.{◌≡◌, ℕ, ◌<◌, ◌≤◌, Bool, true, false, cond, not, ◌&&◌, List, [], ◌∷◌, ◌++◌, length, Option, None, Some, is_none, is_some, Ok, Err, refl, sym, ap, subst, ◌∙◌, append-nil, arith, nat_eq, nat_le, eqb-true, length-append}
+use Rattle.std.specs.Prelude.{codes}
+use Rattle.esb_flags.specs.declared.options.Options.{Options}
+use Rattle.esb_flags.specs.declared.command.Command.{Command}
+use Rattle.esb_flags.specs.declared.command.Command.TheVariants as command
+use Rattle.esb_flags.specs.Fields.{Answer as Asked}
+use Rattle.esb_flags.specs.Command.{asked}
+use Rattle.esb_ask.specs.declared.outcome.Outcome.{Outcome}
+use Rattle.esb_core.specs.declared.event.Event.{Event}
+use Rattle.esb_core.specs.declared.event.Event.TheVariants as event
+use Rattle.esb_core.specs.Moves.{most_builds, most_contexts, most_waiting, key_of, options_of, is_full, too_many, refusal}
+use Rattle.esb_core.specs.Steps.{without}
+use Rattle.esb_core.specs.History.{Begun, crowd, met_in, moves_in, contexts, context, active_build, builds, build, waiting, outcome, is_legal, replay}
+use Rattle.esb_core.specs.Laws.{Verdict, refused, accepted, verdict_by, verdict_of, verdict, if_idle, begins_by, begins, joined_build, if_same, waits_by, waits, gone_if, contexts_by, gone_unless, contexts_at, IsWithinLimits}
+use Rattle.esb_core.proofs.Grown.{past-end}
+use Rattle.esb_core.proofs.Laws.{read-legal}
+use Rattle.esb_core.proofs.Legal.{each_legal}
+use Rattle.esb_core.proofs.Orders.{accepts, lasts, not-full, second}
+use Rattle.esb_core.proofs.Pushed.{builds-pushed, waiting-pushed, contexts-pushed}
+use Rattle.esb_core.proofs.Readings.{same-number}
+
+fewer : {X : Type 0} (key : ℕ) (xs : List (ℕ × X)) → length (without key xs) ≤ length xs
+fewer key [] = omega arith
+fewer key (e ∷ xs) = by (nat_eq key e.0) (fewer key xs)
+  where
+    by : (t : Bool) → length (without key xs) ≤ length xs → length (cond (not t) (e ∷ without key xs) (without key xs)) ≤ length (e ∷ xs)
+    by true rec = omega (arith, rec)
+    by false rec = omega (arith, rec)
+
+below : (most n : ℕ) → nat_le most n ≡ false → n < most
+below most n e = grind (arith)
+
+gone-fewer : (key : ℕ) (stays : Bool) (o : Option ℕ) (xs : List (ℕ × Options)) → length (gone_if key stays o xs) ≤ length xs
+gone-fewer key stays None xs = omega arith
+gone-fewer key true (Some n) xs = omega arith
+gone-fewer key false (Some n) xs = fewer key xs
+
+-- what a request makes of each number that has a limit
+record Holds (es : List Event) (id : ℕ) (v : Verdict) : Type 0 where
+  few_contexts : length (contexts_by es v) ≤ most_contexts
+  few_builds : length (builds es ++ begins_by es v) ≤ most_builds
+  few_waiting : (n : ℕ) → length (waiting es n ++ waits_by es n id v) ≤ most_waiting
+
+module _ (es : List Event) (legal : is_legal es ≡ true) (h : IsWithinLimits es) where
+  same-length : {X : Type 0} (xs : List X) (most : ℕ) → length xs ≤ most → length (xs ++ []) ≤ most
+  same-length xs most few = let same = ap length (append-nil xs) in omega (arith, same, few)
+
+  calm : (id : ℕ) (v : Verdict) → length (contexts_by es v) ≤ length (contexts es) → begins_by es v ≡ [] → ((n : ℕ) → waits_by es n id v ≡ []) → Holds es id v
+  calm id v contexts_few no_build no_wait = record {
+    few_contexts = let few = h.few_contexts in omega (arith, few, contexts_few);
+    few_builds = let few = h.few_builds in let same = ap (λ (bs : List Begun). length (builds es ++ bs)) no_build ∙ ap length (append-nil (builds es)) in omega (arith, few, same);
+    few_waiting = λ n. let few = h.few_waiting n in let same = ap (λ (ids : List ℕ). length (waiting es n ++ ids)) (no_wait n) ∙ ap length (append-nil (waiting es n)) in omega (arith, few, same);
+  }
+
+  -- nothing waits for a build that hasn't begun
+  none-waits : length (waiting es (length (builds es))) ≡ 0
+  none-waits =
+      let r = read-legal es legal in
+      let number = same-number (replay es) (moves_in es) r.reads in
+      ap length (sym (r.reads.waiting (length (builds es))) ∙ past-end (replay es).builds (length (builds es)) (λ b. b.waiting) (omega (arith, number)))
+
+  one-more : (m n id : ℕ) → length (waiting es m) < most_waiting → length (waiting es n ++ if_same m n id) ≤ most_waiting
+  one-more m n id few = by (nat_eq m n) refl
+    where
+      by : (t : Bool) → nat_eq m n ≡ t → length (waiting es n ++ cond t (id ∷ []) []) ≤ most_waiting
+      by true is =
+          let same = ap (λ (k : ℕ). length (waiting es k)) (eqb-true m n is) in
+          let long = length-append (waiting es n) (id ∷ []) in
+          omega (arith, same, long, few)
+      by false is = same-length (waiting es n) most_waiting (h.few_waiting n)
+
+  next-waits : (n id : ℕ) → length (waiting es n ++ if_same (length (builds es)) n id) ≤ most_waiting
+  next-waits n id = one-more (length (builds es)) n id (let none = none-waits in omega (arith, none))
+
+  one-begins : (b : Begun) → length (builds es) < most_builds → length (builds es ++ b ∷ []) ≤ most_builds
+  one-begins b few = let long = length-append (builds es) (b ∷ []) in omega (arith, long, few)
+
+  build-holds : (id key : ℕ) (options : Options) (stays : Bool) → options.context ≡ stays → length (contexts es) < most_contexts → (stays ≡ false → length (builds es) < most_builds) → Holds es id (accepted (command.Build key options))
+  build-holds id key options stays is few_contexts few_builds = record {
+    few_contexts = let long = length-append (contexts es) ((key, options) ∷ []) in omega (arith, long, few_contexts);
+    few_builds = subst (λ (t : Bool). length (builds es ++ cond t [] (record { key = key; options = options } ∷ [])) ≤ most_builds) (sym is) (begun stays refl);
+    few_waiting = λ n. subst (λ (t : Bool). length (waiting es n ++ cond t [] (if_same (length (builds es)) n id)) ≤ most_waiting) (sym is) (waits_one n stays);
+  }
+    where
+      begun : (t : Bool) → stays ≡ t → length (builds es ++ cond t [] (record { key = key; options = options } ∷ [])) ≤ most_builds
+      begun true e = same-length (builds es) most_builds h.few_builds
+      begun false e = one-begins (record { key = key; options = options }) (few_builds e)
+
+      waits_one : (n : ℕ) (t : Bool) → length (waiting es n ++ cond t [] (if_same (length (builds es)) n id)) ≤ most_waiting
+      waits_one n true = same-length (waiting es n) most_waiting (h.few_waiting n)
+      waits_one n false = next-waits n id
+
+  rebuild-holds : (id key : ℕ) (o : Option ℕ) → active_build es key ≡ o → crowd (moves_in es) o < most_waiting → (o ≡ None → length (builds es) < most_builds) → Holds es id (accepted (command.Rebuild key))
+  rebuild-holds id key o is few_waiting few_builds = record {
+    few_contexts = h.few_contexts;
+    few_builds = subst (λ (p : Option ℕ). length (builds es ++ if_idle p (record { key = key; options = options_of (context es key) })) ≤ most_builds) (sym is) (begun o refl);
+    few_waiting = λ n. subst (λ (p : Option ℕ). length (waiting es n ++ if_same (joined_build es p) n id) ≤ most_waiting) (sym is) (waits_one n o few_waiting);
+  }
+    where
+      begun : (p : Option ℕ) → o ≡ p → length (builds es ++ if_idle p (record { key = key; options = options_of (context es key) })) ≤ most_builds
+      begun (Some n) e = same-length (builds es) most_builds h.few_builds
+      begun None e = one-begins (record { key = key; options = options_of (context es key) }) (few_builds e)
+
+      waits_one : (n : ℕ) (p : Option ℕ) → crowd (moves_in es) p < most_waiting → length (waiting es n ++ if_same (joined_build es p) n id) ≤ most_waiting
+      waits_one n None few = next-waits n id
+      waits_one n (Some m) few = one-more m n id few
+
+  command-holds : (id : ℕ) (c : Command) → refusal (met_in (moves_in es) (key_of c)) c ≡ None → Holds es id (accepted c)
+  command-holds id (command.Build key options) e =
+      let last : List (Bool × List ℕ) = too_many (not options.context) (met_in (moves_in es) key) ∷ [] in
+      let one = accepts (is_some (context es key)) (codes "Key in use") ((nat_le most_contexts (length (contexts es)), codes "Too many contexts") ∷ last) e in
+      let two = accepts (nat_le most_contexts (length (contexts es))) (codes "Too many contexts") last one.1 in
+      let three = lasts (not options.context && is_full (met_in (moves_in es) key)) (codes "Too many builds") two.1 in
+      build-holds id key options options.context refl (below most_contexts (length (contexts es)) two.0)
+      (λ passes. not-full (length (builds es)) (second (not options.context) (is_full (met_in (moves_in es) key)) (ap not passes) three))
+  command-holds id (command.Rebuild key) e =
+      let last : List (Bool × List ℕ) = too_many (is_none (active_build es key)) (met_in (moves_in es) key) ∷ [] in
+      let one = accepts (is_none (context es key)) (codes "Unknown key") ((nat_le most_waiting (crowd (moves_in es) (active_build es key)), codes "Too many waiters") ∷ last) e in
+      let two = accepts (nat_le most_waiting (crowd (moves_in es) (active_build es key))) (codes "Too many waiters") last one.1 in
+      let three = lasts (is_none (active_build es key) && is_full (met_in (moves_in es) key)) (codes "Too many builds") two.1 in
+      rebuild-holds id key (active_build es key) refl (below most_waiting (crowd (moves_in es) (active_build es key)) two.0)
+      (λ none. not-full (length (builds es)) (second (is_none (active_build es key)) (is_full (met_in (moves_in es) key)) (ap is_none none) three))
+  command-holds id (command.Cancel key) e = calm id (accepted (command.Cancel key)) (gone-fewer key (options_of (context es key)).context (active_build es key) (contexts es)) refl (λ n. refl)
+  command-holds id (command.Dispose key) e = calm id (accepted (command.Dispose key)) (fewer key (contexts es)) refl (λ n. refl)
+  command-holds id (command.Watch key) e = calm id (accepted (command.Watch key)) (omega arith) refl (λ n. refl)
+  command-holds id (command.Serve key port) e = calm id (accepted (command.Serve key port)) (omega arith) refl (λ n. refl)
+  command-holds id command.Ping e = calm id (accepted command.Ping) (omega arith) refl (λ n. refl)
+
+  request-holds : (id : ℕ) (a : Asked Command) → Holds es id (verdict_of es a)
+  request-holds id (Err text) = calm id (refused text) (omega arith) refl (λ n. refl)
+  request-holds id (Ok c) = by (refusal (met_in (moves_in es) (key_of c)) c) refl
+    where
+      by : (o : Option (List ℕ)) → refusal (met_in (moves_in es) (key_of c)) c ≡ o → Holds es id (verdict_by c o)
+      by (Some text) is = calm id (refused text) (omega arith) refl (λ n. refl)
+      by None is = command-holds id c is
+
+  -- what an event makes of each
+  record After (e : Event) : Type 0 where
+    few_contexts : length (contexts_at es e) ≤ most_contexts
+    few_builds : length (builds es ++ begins es e) ≤ most_builds
+    few_waiting : (n : ℕ) → length (waiting es n ++ waits es n e) ≤ most_waiting
+
+  quiet : (e : Event) → length (contexts_at es e) ≤ length (contexts es) → begins es e ≡ [] → ((n : ℕ) → waits es n e ≡ []) → After e
+  quiet e contexts_few no_build no_wait = record {
+    few_contexts = let few = h.few_contexts in omega (arith, few, contexts_few);
+    few_builds = let few = h.few_builds in let same = ap (λ (bs : List Begun). length (builds es ++ bs)) no_build ∙ ap length (append-nil (builds es)) in omega (arith, few, same);
+    few_waiting = λ n. let few = h.few_waiting n in let same = ap (λ (ids : List ℕ). length (waiting es n ++ ids)) (no_wait n) ∙ ap length (append-nil (waiting es n)) in omega (arith, few, same);
+  }
+
+  event-holds : (e : Event) → After e
+  event-holds (event.Arrive p) = by p.request refl
+    where
+      by : (t : Bool) → p.request ≡ t → After (event.Arrive p)
+      by true is =
+          let g = request-holds p.id (asked p.value) in
+          record {
+            few_contexts = subst (λ (t : Bool). length (cond t (contexts_by es (verdict es p)) (contexts es)) ≤ most_contexts) (sym is) g.few_contexts;
+            few_builds = subst (λ (t : Bool). length (builds es ++ cond t (begins_by es (verdict es p)) []) ≤ most_builds) (sym is) g.few_builds;
+            few_waiting = λ n. subst (λ (t : Bool). length (waiting es n ++ cond t (waits_by es n p.id (verdict es p)) []) ≤ most_waiting) (sym is) (g.few_waiting n);
+          }
+      by false is =
+          let same = ap (λ t. length (cond t (contexts_by es (verdict es p)) (contexts es))) is in
+          quiet (event.Arrive p) (omega (arith, same)) (ap (λ t. cond t (begins_by es (verdict es p)) []) is) (λ n. ap (λ t. cond t (waits_by es n p.id (verdict es p)) []) is)
+  event-holds (event.Settle worker m o) = quiet (event.Settle worker m o) (by (outcome es m) (build es m).options.context) refl (λ n. refl)
+    where
+      by : (p : Option Outcome) (stays : Bool) → length (gone_unless (record { key = (build es m).key; options = record (build es m).options { context = stays } }) p (contexts es)) ≤ length (contexts es)
+      by None true = omega arith
+      by None false = fewer (build es m).key (contexts es)
+      by (Some p) stays = omega arith
+  event-holds event.Pop = quiet event.Pop (omega arith) refl (λ n. refl)
+  event-holds event.EndOfInput = quiet event.EndOfInput (omega arith) refl (λ n. refl)
+  event-holds (event.Claim role job) = quiet (event.Claim role job) (omega arith) refl (λ n. refl)
+  event-holds (event.Record worker m q a) = quiet (event.Record worker m q a) (omega arith) refl (λ n. refl)
+  event-holds (event.Deliver worker m t p) = quiet (event.Deliver worker m t p) (omega arith) refl (λ n. refl)
+
+pub within-limits : (events : List Event) → is_legal events ≡ true → IsWithinLimits events
+within-limits events legal =
+    each_legal IsWithinLimits (record { few_contexts = omega arith; few_builds = omega arith; few_waiting = λ n. omega arith })
+    (λ es e before may h.
+    let g = event-holds es before h e in
+    record {
+      few_contexts = let same = ap length (contexts-pushed es e) in let few = g.few_contexts in omega (arith, same, few);
+      few_builds = let same = ap length (builds-pushed es e) in let few = g.few_builds in omega (arith, same, few);
+      few_waiting = λ n. let same = ap length (waiting-pushed es n e) in let few = g.few_waiting n in omega (arith, same, few);
+    })
+    events legal

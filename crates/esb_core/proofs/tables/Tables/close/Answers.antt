@@ -1,0 +1,13 @@
+use Rattle.std.proofs.Common.{refl, ap, ◌∙◌, ◌-◌, length, List, ℕ}
+use Rattle.esb_core.specs.Known.{Known}
+use Rattle.esb_core.specs.State.{Building}
+use Rattle.esb_core.specs.Queue.{Queue}
+use Rattle.esb_core.proofs.Keeping.{kept-closed, at-index}
+use Rattle.esb_core.proofs.tables.Tables.close.Goals as goal
+
+pub pass_over-requires : goal.pass_over-requires
+pass_over-requires c =
+    let ids = c.waiting.ensures ∙ ap (λ (b : Building). b.waiting) (at-index c.args.self.now.builds.items c.args.build c.index.result.now c.requires.active.begun c.index.ensures) in
+    kept-closed c.args.self.now _ c.args.key c.args.build c.end.new.self c.index_mut.result.now c.args.outcome c.requires.active c.index_mut.ensures.value c.end.ensures (ap (λ (k : Known). k.contexts) c.close.ensures)
+    (ap (λ (k : Known). k.active) c.close.ensures) refl refl
+    (ap (λ (q : Queue). q.promised) c.owe_results.ensures ∙ ap (λ (xs : List ℕ). c.args.self.now.replies.promised - length xs) ids) c.requires.kept

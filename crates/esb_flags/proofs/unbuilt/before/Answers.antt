@@ -1,5 +1,0 @@
-use Rattle.esb_flags.proofs.Words.{cut_back}
-use Rattle.esb_flags.proofs.unbuilt.before.Goals as goal
-
-pub returns : goal.returns
-returns c = cut_back c.args.back.now c.args.chars.now c.strip_suffix.result c.strip_suffix.ensures.cases

@@ -1,5 +1,0 @@
-use Rattle.esb_flags.proofs.Words.{stripped}
-use Rattle.esb_flags.proofs.unbuilt.behind.Goals as goal
-
-pub returns : goal.returns
-returns c = stripped c.args.front.now c.args.chars.now c.strip_prefix.result c.strip_prefix.ensures.cases
