@@ -1,0 +1,3 @@
+pub mod SingleTokens
+pub mod OperatorChains
+pub mod ElementLists

@@ -1,0 +1,4 @@
+pub mod Leaves
+pub mod Operators
+pub mod Lists
+pub mod Laws

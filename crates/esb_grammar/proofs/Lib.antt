@@ -1,0 +1,11 @@
+pub mod Shapes
+pub mod Accepted
+pub mod Lists
+pub mod Inversions
+pub mod Refused
+pub mod EdgeLines
+pub mod AcceptedStatements
+pub mod StatementShapes
+pub mod RefusedStatements
+pub mod SemicolonTexts
+pub mod WordTexts

@@ -1,0 +1,12 @@
+pub mod Contexts
+pub mod Kinds
+pub mod Forms
+pub mod Words
+pub mod Edges
+pub mod Semicolons
+pub mod Grammar
+pub mod Modules
+pub mod Samples
+pub mod StatementSamples
+pub mod SemicolonSamples
+pub mod ModuleSamples
