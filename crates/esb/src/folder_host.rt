@@ -3,7 +3,7 @@ ghost use Rattle.std.specs.Prelude.{◌≡◌, [], None};
 
 use esb_base::{Blob, Host, KindAnswer, PutFault, ReadAnswer, Text};
 use std::alloc::Global;
-use std::fs::{File, Files};
+use std::fs::{File, Files, OpenFile};
 use std::io::{ErrorKind, Read};
 use std::vec::Vec;
 use std::{fs, io};
@@ -49,12 +49,15 @@ fn refusal_of(error: &io::Error) -> Refusal {
     }
 }
 
-/// The first bytes of a file, of which there is one more than `MOST_BYTES` where it has more.
-fn read_file<F: Files>(files: &F, alloc: Global, path: &str) -> io::Result<Vec<u8>> {
+/// What a file has. One that has more than `MOST_BYTES` isn't read, and of one that grew since only one byte more is.
+fn read_file<F: Files>(files: &F, alloc: Global, path: &str) -> io::Result<Option<Vec<u8>>> {
     let file = File::open(files, path)?;
+    if file.metadata()?.len() > MOST_BYTES as u64 {
+        return Ok(None);
+    }
     let mut bytes = Vec::new(alloc);
     file.take(MOST_BYTES as u64 + 1).read_to_end(&mut bytes)?;
-    Ok(bytes)
+    Ok(Some(bytes))
 }
 
 /// Writes a file, and makes the folders that it lies in.
@@ -103,7 +106,8 @@ impl<F: Files> Host for FolderHost<F> {
 
     fn read(&mut self, _turn: u32, path: &Text) -> ReadAnswer {
         match read_file(&self.files, self.alloc, path.as_str()) {
-            Ok(bytes) => {
+            Ok(None) => ReadAnswer::TooBig,
+            Ok(Some(bytes)) => {
                 if bytes.len() > MOST_BYTES {
                     return ReadAnswer::TooBig;
                 }

@@ -9,9 +9,10 @@ use Rattle.esb_ask.specs.declared.outcome.Outcome.TheVariants as outcomes
 use Rattle.esb_core.specs.declared.event.Event.{Event}
 use Rattle.esb_core.specs.declared.event.Event.TheVariants as event
 use Rattle.esb_core.specs.State.{build_at, start}
+use Rattle.esb_core.specs.Sizes.{too_large}
 use Rattle.esb_core.specs.Allowed.{allowed, has_begun, may_settle}
 use Rattle.esb_core.specs.History.{Begun, active_build, builds, build, or_later, outcome, is_legal, is_legal_from, replay}
-use Rattle.esb_core.specs.Laws.{Verdict, refused, accepted, verdict, canceled_if, settled_by, settles, Cancels, IsSettledBy, IsCanceledBy}
+use Rattle.esb_core.specs.Laws.{Verdict, refused, accepted, verdict, large_if, overfull, overopened, canceled_if, settled_by, settles, Cancels, IsSettledBy, IsCanceledBy}
 use Rattle.esb_core.proofs.Actives.{active-is, is-active}
 use Rattle.esb_core.proofs.Begins.{build-stays}
 use Rattle.esb_core.proofs.Claims.{both_parts}
@@ -82,6 +83,12 @@ canceled-by events n legal is = by h.by h.at h.gives
         }
     arrives p at false request gives = not_none outcomes.Canceled (sym gives)
 
+    -- a build that would be too large isn't canceled
+    large : (t l : Bool) → cond t (large_if l) None ≡ Some outcomes.Canceled → IsCanceledBy events n
+    large true true e = absurd (let f : Some too_large ≡ Some outcomes.Canceled = e in let g : ⊥ = cc in g)
+    large true false e = not_none outcomes.Canceled (sym e)
+    large false l e = not_none outcomes.Canceled (sym e)
+
     by : (e : Event) → events ≡ h.before ++ e ∷ h.more → settles h.before n e ≡ Some outcomes.Canceled → IsCanceledBy events n
     by (event.Arrive p) at gives = arrives p at p.request refl gives
     by (event.Settle worker m o) at gives = settle (nat_eq m n) gives
@@ -94,8 +101,8 @@ canceled-by events n legal is = by h.by h.at h.gives
         settle false e = not_none outcomes.Canceled (sym e)
     by event.EndOfInput at gives = not_none outcomes.Canceled (sym gives)
     by (event.Claim role job) at gives = not_none outcomes.Canceled (sym gives)
-    by (event.Record worker m q a) at gives = not_none outcomes.Canceled (sym gives)
-    by (event.Deliver worker m t p) at gives = not_none outcomes.Canceled (sym gives)
+    by (event.Record worker m q a) at gives = large (nat_eq m n) (overfull h.before m q a) gives
+    by (event.Deliver worker m t p) at gives = large (nat_eq m n) (overopened h.before m p) gives
     by event.Pop at gives = not_none outcomes.Canceled (sym gives)
 
 pub by-cancel : (events : List Event) (n : ℕ) → is_legal events ≡ true → IsCanceledBy events n → outcome events n ≡ Some outcomes.Canceled

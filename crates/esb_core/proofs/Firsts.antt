@@ -15,13 +15,14 @@ use Rattle.esb_ask.proofs.Tables.{equal-from_same, same-refl, kept_answers, kept
 use Rattle.esb_core.specs.declared.event.Event.{Event}
 use Rattle.esb_core.specs.declared.event.Event.TheVariants as event
 use Rattle.esb_core.specs.Moves.{Move}
-use Rattle.esb_core.specs.History.{moves_in, answers_in, kept_pair, table_in, outcome, table}
-use Rattle.esb_core.specs.Laws.{answered_if, answers, answers_it, is_about, IsAnsweredBy}
+use Rattle.esb_core.specs.History.{moves_in, answers_in, kept_pair, or_later, table_in, outcome, table}
+use Rattle.esb_core.specs.Sizes.{too_large}
+use Rattle.esb_core.specs.Laws.{large_if, overfull, answered_if, answers, answers_it, is_about, IsAnsweredBy}
 use Rattle.esb_core.proofs.Ends.{outcome-stays, unsettled-before}
 use Rattle.esb_core.proofs.Legal.{each}
 use Rattle.esb_core.proofs.Lookups.{not_none}
 use Rattle.esb_core.proofs.Moving.{IsLonger, moves-longer, table-append, count-push}
-use Rattle.esb_core.proofs.Pushed.{table-pushed}
+use Rattle.esb_core.proofs.Pushed.{outcome-pushed, table-pushed}
 
 -- ---- tables grow at their end
 
@@ -101,8 +102,8 @@ table-once es n q = fold-once q [] (answers_in (moves_in es) n) (omega arith)
 settled-silent : (es : List Event) (n : ℕ) (o : Outcome) (e : Event) → outcome es n ≡ Some o → answers es n e ≡ []
 settled-silent es n o (event.Record worker m q a) is = by (nat_eq m n) refl
   where
-    by : (t : Bool) → nat_eq m n ≡ t → cond t (answered_if (outcome es m) q a) [] ≡ []
-    by true same = ap (λ (p : Option Outcome). answered_if p q a) (ap (λ (k : ℕ). outcome es k) (eqb-true m n same) ∙ is)
+    by : (t : Bool) → nat_eq m n ≡ t → cond t (answered_if (outcome es m) (overfull es m q a) q a) [] ≡ []
+    by true same = ap (λ (p : Option Outcome). answered_if p (overfull es m q a) q a) (ap (λ (k : ℕ). outcome es k) (eqb-true m n same) ∙ is)
     by false apart = refl
 settled-silent es n o (event.Arrive p) is = refl
 settled-silent es n o event.EndOfInput is = refl
@@ -134,13 +135,14 @@ both-false a b e f = ap (λ (t : Bool). t || b) e ∙ f
 
 -- an event that has no answer to the question of the build
 silent : (es : List Event) (n : ℕ) (q : Question) (e : Event) → answers_it n q e ≡ false → answer_to (fold kept_pair (table es n) (answers es n e)) q ≡ answer_to (table es n) q
-silent es n q (event.Record worker m k a) other = by (nat_eq m n) (same_question q k) refl other (outcome es m)
+silent es n q (event.Record worker m k a) other = by (nat_eq m n) (same_question q k) refl other (outcome es m) (overfull es m k a)
   where
-    by : (t s : Bool) → same_question q k ≡ s → (t && s) ≡ false → (o : Option Outcome) → answer_to (fold kept_pair (table es n) (cond t (answered_if o k a) [])) q ≡ answer_to (table es n) q
-    by true true is e o = absurd (false≢true (sym e))
-    by true false is e None = kept-or (table es n) q k a false is (answer_to (table es n) q) refl
-    by true false is e (Some o) = refl
-    by false s is e o = refl
+    by : (t s : Bool) → same_question q k ≡ s → (t && s) ≡ false → (o : Option Outcome) (large : Bool) → answer_to (fold kept_pair (table es n) (cond t (answered_if o large k a) [])) q ≡ answer_to (table es n) q
+    by true true is e o large = absurd (false≢true (sym e))
+    by true false is e None false = kept-or (table es n) q k a false is (answer_to (table es n) q) refl
+    by true false is e None true = refl
+    by true false is e (Some o) large = refl
+    by false s is e o large = refl
 silent es n q (event.Arrive p) other = refl
 silent es n q event.EndOfInput other = refl
 silent es n q (event.Claim role job) other = refl
@@ -166,17 +168,34 @@ none-kept events n q = each (λ es. list_any (answers_it n q) es ≡ false → a
         ∙ rec (left-false (list_any (answers_it n q) es) (answers_it n q e) parts)
 
 -- the answer of an event that comes first
-first-kept : (es : List Event) (worker n : ℕ) (q : Question) (a : Answer) → outcome es n ≡ None → answer_to (table es n) q ≡ None → answer_to (table (es ++ event.Record worker n q a ∷ []) n) q ≡ Some a
-first-kept es worker n q a unsettled none =
+first-kept : (es : List Event) (worker n : ℕ) (q : Question) (a : Answer) → outcome es n ≡ None → overfull es n q a ≡ false → answer_to (table es n) q ≡ None → answer_to (table (es ++ event.Record worker n q a ∷ []) n) q ≡ Some a
+first-kept es worker n q a unsettled small none =
     ap (λ (t : List (Question × Answer)). answer_to t q) (table-pushed es n (event.Record worker n q a))
-    ∙ ap (λ (t : Bool). answer_to (fold kept_pair (table es n) (cond t (answered_if (outcome es n) q a) [])) q) (eq-eqb n n refl)
-    ∙ ap (λ (o : Option Outcome). answer_to (fold kept_pair (table es n) (answered_if o q a)) q) unsettled
+    ∙ ap (λ (t : Bool). answer_to (fold kept_pair (table es n) (cond t (answered_if (outcome es n) (overfull es n q a) q a) [])) q) (eq-eqb n n refl)
+    ∙ ap (λ (o : Option Outcome). answer_to (fold kept_pair (table es n) (answered_if o (overfull es n q a) q a)) q) unsettled
+    ∙ ap (λ (large : Bool). answer_to (fold kept_pair (table es n) (answered_if None large q a)) q) small
     ∙ kept-or (table es n) q q a true (same-refl q) None none
 
 pub earliest-kept : (events : List Event) (n : ℕ) (q : Question) (a : Answer) → IsAnsweredBy events n q a → answer_to (table events n) q ≡ Some a
 earliest-kept events n q a h =
     ap (λ (es : List Event). answer_to (table es n) q) (h.at ∙ sym (append_assoc h.before (event.Record h.worker n q a ∷ []) h.more))
-    ∙ kept-stays (h.before ++ event.Record h.worker n q a ∷ []) h.more n q a (first-kept h.before h.worker n q a h.unsettled (none-kept h.before n q h.earliest))
+    ∙ kept-stays (h.before ++ event.Record h.worker n q a ∷ []) h.more n q a (first-kept h.before h.worker n q a h.unsettled h.fits (none-kept h.before n q h.earliest))
+
+-- an answer that would be too much settles the build that isn't settled
+ends-now : (es : List Event) (worker n : ℕ) (q : Question) (a : Answer) → outcome es n ≡ None → overfull es n q a ≡ true → outcome (es ++ event.Record worker n q a ∷ []) n ≡ Some too_large
+ends-now es worker n q a unsettled over =
+    outcome-pushed es n (event.Record worker n q a)
+    ∙ ap (λ (t : Bool). or_later (outcome es n) (cond t (large_if (overfull es n q a)) None)) (eq-eqb n n refl)
+    ∙ ap (λ (large : Bool). or_later (outcome es n) (large_if large)) over
+    ∙ ap (λ (o : Option Outcome). or_later o (Some too_large)) unsettled
+
+-- an answer that would be too much isn't kept
+not-kept : (es : List Event) (worker n : ℕ) (q : Question) (a : Answer) → outcome es n ≡ None → overfull es n q a ≡ true → table (es ++ event.Record worker n q a ∷ []) n ≡ table es n
+not-kept es worker n q a unsettled over =
+    table-pushed es n (event.Record worker n q a)
+    ∙ ap (λ (t : Bool). fold kept_pair (table es n) (cond t (answered_if (outcome es n) (overfull es n q a) q a) [])) (eq-eqb n n refl)
+    ∙ ap (λ (o : Option Outcome). fold kept_pair (table es n) (answered_if o (overfull es n q a) q a)) unsettled
+    ∙ ap (λ (large : Bool). fold kept_pair (table es n) (answered_if None large q a)) over
 
 -- where nothing is kept and the build isn't settled, nothing was answered
 none-answered : (events : List Event) (n : ℕ) (q : Question) → outcome events n ≡ None → answer_to (table events n) q ≡ None → list_any (answers_it n q) events ≡ false
@@ -196,11 +215,17 @@ none-answered events n q = each (λ es. outcome es n ≡ None → answer_to (tab
         own : (d : Event) → e ≡ d → answers_it n q d ≡ false
         own (event.Record worker m k a) is = by (nat_eq m n) (same_question q k) refl refl
           where
+            -- an answer that would be too much settles the build
+            large : event.Record worker m k a ≡ event.Record worker n q a → (l : Bool) → overfull es n q a ≡ l → (true && true) ≡ false
+            large mine true over = not_none too_large (sym (ends-now es worker n q a still over) ∙ ap (λ (d : Event). outcome (es ++ d ∷ []) n) (sym (is ∙ mine)) ∙ unsettled)
+            large mine false small =
+                not_none a
+                (sym (first-kept es worker n q a still small (absent (answer_to (table es n) q) refl)) ∙ ap (λ (d : Event). answer_to (table (es ++ d ∷ []) n) q) (sym (is ∙ mine)) ∙ none)
+
             by : (t s : Bool) → nat_eq m n ≡ t → same_question q k ≡ s → (t && s) ≡ false
             by true true number same =
                 let mine : event.Record worker m k a ≡ event.Record worker n q a = ap (λ (j : ℕ). event.Record worker j k a) (eqb-true m n number) ∙ ap (λ (j : Question). event.Record worker n j a) (sym (equal-from_same q k same)) in
-                not_none a
-                (sym (first-kept es worker n q a still (absent (answer_to (table es n) q) refl)) ∙ ap (λ (d : Event). answer_to (table (es ++ d ∷ []) n) q) (sym (is ∙ mine)) ∙ none)
+                large mine (overfull es n q a) refl
             by true false number apart = refl
             by false s apart is = refl
         own (event.Arrive p) is = refl
@@ -218,6 +243,7 @@ extended es e n q a h = record {
   at = ap (λ (xs : List Event). xs ++ e ∷ []) h.at ∙ append_assoc h.before (event.Record h.worker n q a ∷ h.more) (e ∷ []);
   earliest = h.earliest;
   unsettled = h.unsettled;
+  fits = h.fits;
 }
 
 pub kept-earliest : (events : List Event) (n : ℕ) (q : Question) (a : Answer) → answer_to (table events n) q ≡ Some a → IsAnsweredBy events n q a
@@ -240,17 +266,24 @@ kept-earliest events n q = each (λ es. (a : Answer) → answer_to (table es n) 
                 settled : (o : Option Outcome) → outcome es n ≡ o → IsAnsweredBy (es ++ e ∷ []) n q a
                 settled (Some o) some =
                     not_none a (sym is ∙ ap (λ (t : List (Question × Answer)). answer_to t q) (table-stays es (e ∷ []) n o some) ∙ none)
-                settled None unsettled =
-                    let here : Some b ≡ Some a = sym (first-kept es worker n q b unsettled none) ∙ ap (λ (d : Event). answer_to (table (es ++ d ∷ []) n) q) (sym (same ∙ mine)) ∙ is in
-                    let said : b ≡ a = cc in
-                    record {
-                      before = es;
-                      worker = worker;
-                      more = [];
-                      at = ap (λ (d : Event). es ++ d ∷ []) (same ∙ mine ∙ ap (λ (c : Answer). event.Record worker n q c) said);
-                      earliest = none-answered es n q unsettled none;
-                      unsettled = unsettled;
-                    }
+                settled None unsettled = sized (overfull es n q b) refl
+                  where
+                    sized : (large : Bool) → overfull es n q b ≡ large → IsAnsweredBy (es ++ e ∷ []) n q a
+                    sized true over =
+                        not_none a
+                        (sym is ∙ ap (λ (d : Event). answer_to (table (es ++ d ∷ []) n) q) (same ∙ mine) ∙ ap (λ (t : List (Question × Answer)). answer_to t q) (not-kept es worker n q b unsettled over) ∙ none)
+                    sized false small =
+                        let here : Some b ≡ Some a = sym (first-kept es worker n q b unsettled small none) ∙ ap (λ (d : Event). answer_to (table (es ++ d ∷ []) n) q) (sym (same ∙ mine)) ∙ is in
+                        let said : b ≡ a = cc in
+                        record {
+                          before = es;
+                          worker = worker;
+                          more = [];
+                          at = ap (λ (d : Event). es ++ d ∷ []) (same ∙ mine ∙ ap (λ (c : Answer). event.Record worker n q c) said);
+                          earliest = none-answered es n q unsettled none;
+                          unsettled = unsettled;
+                          fits = ap (λ (c : Answer). overfull es n q c) (sym said) ∙ small;
+                        }
             at true false number apart f = absurd (false≢true f)
             at false s apart other f = absurd (false≢true f)
         own (event.Arrive p) same none true it = absurd (false≢true it)

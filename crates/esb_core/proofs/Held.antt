@@ -22,12 +22,12 @@ use Rattle.esb_core.specs.declared.event.Event.TheVariants as event
 use Rattle.esb_core.specs.State.{Building, State, build_at, no_build, start}
 use Rattle.esb_core.specs.Moves.{Move}
 use Rattle.esb_core.specs.Steps
-use Rattle.esb_core.specs.Steps.{after, moves, all_moved, fresh, joined, answered, ended_by, is_claim, task_claimed, link_claimed, delivered, released, freed}
+use Rattle.esb_core.specs.Steps.{after, moves, all_moved, fresh, joined, answered, tasked, ended_by, is_claim, task_claimed, link_claimed, released, freed}
 use Rattle.esb_core.specs.Allowed.{allowed, has_begun, first_job, names_job, has_task, is_linker, has_claim, may_settle}
 use Rattle.esb_core.specs.History.{is_legal, replay}
 use Rattle.esb_core.specs.Work.{claims_task, gives_task, gives_link, delivers, settles_by, holds_task, holds_link, HoldsTask}
 use Rattle.esb_core.proofs.Claims.{claim-is, scan-is, link-is, both_parts}
-use Rattle.esb_core.proofs.Each.{each-all_moved}
+use Rattle.esb_core.proofs.Each.{each-all_moved, claims-stay}
 use Rattle.esb_core.proofs.Laws.{all_moved-longer}
 use Rattle.esb_core.proofs.Moving.{count-push}
 use Rattle.esb_core.proofs.Readings.{at-set}
@@ -267,14 +267,8 @@ module _ (b : Building) (n : ℕ) (es : List Event) (v : ℕ) (u : Task) (p : Pr
           ap (λ (k : ℕ). list_any (gives_task k n t) es) (sym (eqb-true v w parts.0)) ∙ ap (λ (r : Task). list_any (gives_task v n r) es) (sym (equal-from_same_task u t parts.1)) ∙ was_given
       by false is one = h.given w t (sym (or-false (list_any (delivers w n t) es)) ∙ ap (λ x. list_any (delivers w n t) es || x) (sym is) ∙ one)
 
-  back-held : (o : Option Outcome) → IsHeld (delivered b v u p o) n (es ++ event.Deliver v n u p ∷ [])
-  back-held None = record {
-    tasks = back-tasks;
-    link = λ w. h.link w ∙ sym (link-same es (event.Deliver v n u p) w n refl refl);
-    unsettled = λ none w. quiet (settles_by w n) es (event.Deliver v n u p) refl ∙ h.unsettled none w;
-    given = back-given;
-  }
-  back-held (Some o) = record {
+  back-held : IsHeld (Steps.unclaimed b v u) n (es ++ event.Deliver v n u p ∷ [])
+  back-held = record {
     tasks = back-tasks;
     link = λ w. h.link w ∙ sym (link-same es (event.Deliver v n u p) w n refl refl);
     unsettled = λ none w. quiet (settles_by w n) es (event.Deliver v n u p) refl ∙ h.unsettled none w;
@@ -377,6 +371,7 @@ moved-held s ms es all =
     each-all_moved (λ n b. IsHeld b n es) (λ n key options h. same-held no_build (fresh key options) n es refl refl (λ none. refl) h)
     (λ n b id h. same-held b (joined b id) n es refl refl (λ none. none) h)
     (λ n b q a h. same-held b (answered b q a) n es refl refl (λ none. none) h)
+    (λ n b t h. same-held b (tasked b t) n es refl refl (λ none. none) h)
     (λ n b o h. same-held b (ended_by b o) n es refl refl (λ none. absurd (let f : ⊥ = cc in f)) h)
     s ms all
 
@@ -406,10 +401,10 @@ module _ (s : State) (es : List Event) (all : AreHeld s.builds es) where
   claims-held (role.Door door) j may new = absurd (false≢true may)
 
   back-changes : (v n : ℕ) (t : Task) (p : Product) → n < length s.builds → has_task (build_at s.builds n) v t ≡ true
-      → AreHeld (slice_set s.builds n (delivered (build_at s.builds n) v t p (build_at s.builds n).outcome)) (es ++ event.Deliver v n t p ∷ [])
+      → AreHeld (slice_set s.builds n (Steps.unclaimed (build_at s.builds n) v t)) (es ++ event.Deliver v n t p ∷ [])
   back-changes v n t p lt held =
-      set-held s.builds n (delivered (build_at s.builds n) v t p (build_at s.builds n).outcome) (es ++ event.Deliver v n t p ∷ []) lt
-      (back-held (build_at s.builds n) n es v t p (all n) held (build_at s.builds n).outcome)
+      set-held s.builds n (Steps.unclaimed (build_at s.builds n) v t) (es ++ event.Deliver v n t p ∷ []) lt
+      (back-held (build_at s.builds n) n es v t p (all n) held)
       (λ m apart. apart-held (build_at s.builds m) m es (event.Deliver v n t p)
       (record { give = λ w u. refl; link = λ w. refl; give_back = λ w u. elsewhere v n m t apart w u; settle = λ w. refl }) (all m))
 
@@ -425,7 +420,11 @@ step-held : (s : State) (es : List Event) (e : Event) → AreHeld s.builds es �
 step-held s es (event.Claim r j) all may new = claims-held s es all r j may (λ n t is. new n t r (ap (λ (k : Job). event.Claim r k) is))
 step-held s es (event.Deliver v n t p) all may new =
     let parts = both_parts (has_begun s n) (has_task (build_at s.builds n) v t && product_fits t p) may in
-    back-changes s es all v n t p (ltb-true n (length s.builds) parts.0) (both_parts (has_task (build_at s.builds n) v t) (product_fits t p) parts.1).0
+    let u : State = all_moved s (moves s (event.Deliver v n t p)) in
+    let lt = ltb-true n (length s.builds) parts.0 in
+    let longer = all_moved-longer s (moves s (event.Deliver v n t p)) in
+    let still = ap (λ (cs : List (ℕ × Task)). list_any (is_claim v t) cs) (claims-stay s (moves s (event.Deliver v n t p)) n) in
+    back-changes u es (moved-held s (moves s (event.Deliver v n t p)) es all) v n t p (omega (arith, lt, longer)) (still ∙ (both_parts (has_task (build_at s.builds n) v t) (product_fits t p) parts.1).0)
 step-held s es (event.Settle v n o) all may new =
     let lt = ltb-true n (length s.builds) (both_parts (has_begun s n) (may_settle (build_at s.builds n) v o) may).0 in
     let longer = all_moved-longer s (moves s (event.Settle v n o)) in

@@ -13,8 +13,9 @@ use Rattle.esb_core.specs.declared.event.Role.TheVariants as role
 use Rattle.esb_core.specs.declared.event.Event.{Event}
 use Rattle.esb_core.specs.declared.event.Event.TheVariants as event
 use Rattle.esb_core.specs.State.{Building, State, build_at, start}
-use Rattle.esb_core.specs.Moves.{Move, make, remove, begin, join, owe, keep, close, take, Met, Standing, key_of, commanded, requested, kept_unless, closed_unless}
-use Rattle.esb_core.specs.Steps.{moved, all_moved, after, worked, moves, fresh, joined, answered, ended_by, released, delivered, task_claimed, link_claimed, met}
+use Rattle.esb_core.specs.Moves.{Move, make, remove, begin, join, owe, keep, assign, close, take, Met, Standing, key_of, commanded, requested, kept_unless, opened_unless, closed_unless}
+use Rattle.esb_core.specs.Sizes.{named}
+use Rattle.esb_core.specs.Steps.{moved, all_moved, after, worked, moves, fresh, joined, answered, tasked, ended_by, released, unclaimed, task_claimed, link_claimed, met}
 use Rattle.esb_core.specs.Allowed.{allowed, has_begun, has_task, may_settle}
 use Rattle.esb_core.specs.Order.{IsOrdered}
 use Rattle.esb_core.specs.History.{moves_after, moves_in, met_in, is_legal, replay, StandsFor}
@@ -39,12 +40,12 @@ requested-read s ms id (Ok c) r = ap (λ (m : Met). commanded m id c) (met-read 
 -- what the state comes to is what the moves so far come to
 pub moves-read : (s : State) (ms : List Move) (e : Event) → Reads s ms → moves s e ≡ moves_after ms e
 moves-read s ms (event.Arrive p) r = ap (λ (ns : List Move). cond p.request ns []) (requested-read s ms p.id (asked p.value) r)
-moves-read s ms (event.Record worker n q a) r = ap (λ (t : Standing). kept_unless n q a t.outcome) (standing-read s ms n r)
+moves-read s ms (event.Record worker n q a) r = ap (λ (t : Standing). kept_unless t n q a t.outcome) (standing-read s ms n r)
 moves-read s ms (event.Settle worker n o) r = ap (λ (t : Standing). closed_unless t n o t.outcome) (standing-read s ms n r)
 moves-read s ms event.Pop r = refl
 moves-read s ms event.EndOfInput r = refl
 moves-read s ms (event.Claim role job) r = refl
-moves-read s ms (event.Deliver worker n t p) r = refl
+moves-read s ms (event.Deliver worker n t p) r = ap (λ (at : Standing). opened_unless at n (named p) at.outcome) (standing-read s ms n r)
 
 -- ---- the work of an event
 
@@ -56,6 +57,7 @@ moved-longer s (begin n key options) = let long = length-append s.builds (fresh 
 moved-longer s (join n id) = let long = length-set s.builds n (joined (build_at s.builds n) id) in omega (arith, long)
 moved-longer s (owe o) = omega arith
 moved-longer s (keep n q a) = let long = length-set s.builds n (answered (build_at s.builds n) q a) in omega (arith, long)
+moved-longer s (assign n t) = let long = length-set s.builds n (tasked (build_at s.builds n) t) in omega (arith, long)
 moved-longer s (close key n o) = let long = length-set s.builds n (ended_by (build_at s.builds n) o) in omega (arith, long)
 moved-longer s take = omega arith
 
@@ -80,7 +82,10 @@ unfolding IsWorkedOn
 works-on s (event.Claim (role.Worker worker) (job.Scan n t)) may = (scan-is s.builds n t (claim-is s worker (job.Scan n t) may)).begun
 works-on s (event.Claim (role.Worker worker) (job.Link n)) may = (link-is s.builds n (claim-is s worker (job.Link n) may)).begun
 works-on s (event.Claim (role.Door door) j) may = tt
-works-on s (event.Deliver worker n t p) may = ltb-true n (length s.builds) (both_parts (has_begun s n) (has_task (build_at s.builds n) worker t && product_fits t p) may).0
+works-on s (event.Deliver worker n t p) may =
+    let lt = ltb-true n (length s.builds) (both_parts (has_begun s n) (has_task (build_at s.builds n) worker t && product_fits t p) may).0 in
+    let longer = all_moved-longer s (moves s (event.Deliver worker n t p)) in
+    omega (arith, lt, longer)
 works-on s (event.Settle worker n o) may =
     let lt = ltb-true n (length s.builds) (both_parts (has_begun s n) (may_settle (build_at s.builds n) worker o) may).0 in
     let longer = all_moved-longer s (moves s (event.Settle worker n o)) in
@@ -90,23 +95,14 @@ works-on s event.EndOfInput may = tt
 works-on s (event.Record worker n q a) may = tt
 works-on s event.Pop may = tt
 
-pub delivered-same : {X : Type 0} (f : Building → X) (b : Building) (worker : ℕ) (t : Task) (p : Product) (o : Option Outcome) → ((c : Building) → (claims : List (ℕ × Task)) (tasks : List Task) → f (record c { claims = claims; tasks = tasks }) ≡ f c)
-    → f (delivered b worker t p o) ≡ f b
-delivered-same f b worker t p None same = same b _ _
-delivered-same f b worker t p (Some o) same = same b _ b.tasks
-
 worked-reads : (s : State) (ms : List Move) (e : Event) → IsWorkedOn s e → Reads s ms → Reads (worked s e) ms
 unfolding IsWorkedOn
-worked-reads s ms (event.Claim (role.Worker worker) (job.Scan n t)) lt r = changed-reads s ms n (task_claimed (build_at s.builds n) worker t) lt refl refl refl refl r
-worked-reads s ms (event.Claim (role.Worker worker) (job.Link n)) lt r = changed-reads s ms n (link_claimed (build_at s.builds n) worker) lt refl refl refl refl r
+worked-reads s ms (event.Claim (role.Worker worker) (job.Scan n t)) lt r = changed-reads s ms n (task_claimed (build_at s.builds n) worker t) lt refl refl refl refl refl r
+worked-reads s ms (event.Claim (role.Worker worker) (job.Link n)) lt r = changed-reads s ms n (link_claimed (build_at s.builds n) worker) lt refl refl refl refl refl r
 worked-reads s ms (event.Claim (role.Door door) j) lt r = r
-worked-reads s ms (event.Deliver worker n t p) lt r =
-    let b : Building = build_at s.builds n in
-    changed-reads s ms n (delivered b worker t p b.outcome) lt (delivered-same (λ c. record { key = c.key; options = c.options }) b worker t p b.outcome (λ c claims tasks. refl))
-    (delivered-same (λ c. c.waiting) b worker t p b.outcome (λ c claims tasks. refl)) (delivered-same (λ c. c.outcome) b worker t p b.outcome (λ c claims tasks. refl))
-    (delivered-same (λ c. c.table) b worker t p b.outcome (λ c claims tasks. refl)) r
-worked-reads s ms (event.Settle worker n o) lt r = changed-reads s ms n (released (build_at s.builds n) worker) lt refl refl refl refl r
-worked-reads s ms event.EndOfInput lt r = record { contexts = r.contexts; active = r.active; begun = r.begun; waiting = r.waiting; outcomes = r.outcomes; tables = r.tables; owed = r.owed; enough = r.enough }
+worked-reads s ms (event.Deliver worker n t p) lt r = changed-reads s ms n (unclaimed (build_at s.builds n) worker t) lt refl refl refl refl refl r
+worked-reads s ms (event.Settle worker n o) lt r = changed-reads s ms n (released (build_at s.builds n) worker) lt refl refl refl refl refl r
+worked-reads s ms event.EndOfInput lt r = record { contexts = r.contexts; active = r.active; begun = r.begun; waiting = r.waiting; outcomes = r.outcomes; tables = r.tables; lists = r.lists; owed = r.owed; enough = r.enough }
 worked-reads s ms (event.Arrive p) lt r = r
 worked-reads s ms (event.Record worker n q a) lt r = r
 worked-reads s ms event.Pop lt r = r
@@ -116,9 +112,7 @@ unfolding IsWorkedOn
 worked-ordered s (event.Claim (role.Worker worker) (job.Scan n t)) lt h = changed-ordered s n (task_claimed (build_at s.builds n) worker t) lt refl refl h
 worked-ordered s (event.Claim (role.Worker worker) (job.Link n)) lt h = changed-ordered s n (link_claimed (build_at s.builds n) worker) lt refl refl h
 worked-ordered s (event.Claim (role.Door door) j) lt h = h
-worked-ordered s (event.Deliver worker n t p) lt h =
-    let b : Building = build_at s.builds n in
-    changed-ordered s n (delivered b worker t p b.outcome) lt (delivered-same (λ c. c.outcome) b worker t p b.outcome (λ c claims tasks. refl)) (delivered-same (λ c. c.key) b worker t p b.outcome (λ c claims tasks. refl)) h
+worked-ordered s (event.Deliver worker n t p) lt h = changed-ordered s n (unclaimed (build_at s.builds n) worker t) lt refl refl h
 worked-ordered s (event.Settle worker n o) lt h = changed-ordered s n (released (build_at s.builds n) worker) lt refl refl h
 worked-ordered s event.EndOfInput lt h = ordered-as s (record s { ended = true }) refl refl refl h
 worked-ordered s (event.Arrive p) lt h = h
@@ -145,7 +139,7 @@ at_start = record {
     known = λ n lt none. absurd (omega (arith, lt));
     inside = λ key n e. absurd (let h : None ≡ Some n = e in let f : ⊥ = cc in f);
   };
-  reads = record { contexts = refl; active = refl; begun = refl; waiting = λ n. refl; outcomes = λ n. refl; tables = λ n. refl; owed = refl; enough = omega arith };
+  reads = record { contexts = refl; active = refl; begun = refl; waiting = λ n. refl; outcomes = λ n. refl; tables = λ n. refl; lists = λ n. refl; owed = refl; enough = omega arith };
 }
 
 pub read-legal : (events : List Event) → is_legal events ≡ true → IsRead (replay events) events

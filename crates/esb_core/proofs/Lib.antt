@@ -1,10 +1,12 @@
 pub mod Actives
+pub mod Adding
 pub mod Begins
 pub mod Cancels
 pub mod Claims
 pub mod Each
 pub mod Ends
 pub mod Entries
+pub mod Files
 pub mod Firsts
 pub mod Grown
 pub mod Held

@@ -1,24 +1,32 @@
 -- There are no more contexts, builds and waiting requests than the limits.
-use Rattle.std.proofs.Common.{◌≡◌, ℕ, ◌<◌, ◌≤◌, Bool, true, false, cond, not, ◌&&◌, List, [], ◌∷◌, ◌++◌, length, Option, None, Some, is_none, is_some, Ok, Err, refl, sym, ap, subst, ◌∙◌, append-nil, arith, nat_eq, nat_le, eqb-true, length-append}
-use Rattle.std.specs.Prelude.{codes}
+use Rattle.std.proofs.Common.{◌≡◌, ℕ, ◌<◌, ◌≤◌, Bool, true, false, cond, not, ◌&&◌, List, [], ◌∷◌, ◌++◌, length, Option, None, Some, is_none, is_some, Ok, Err, refl, sym, ap, subst, ◌∙◌, append-nil, arith, nat_eq, nat_le, nat_lt, ◌||◌, eqb-true, length-append}
+use Rattle.std.specs.Prelude.{codes, fold}
+use Rattle.std.proofs.lemmas.Bool.{false≢true}
 use Rattle.esb_flags.specs.declared.options.Options.{Options}
 use Rattle.esb_flags.specs.declared.command.Command.{Command}
 use Rattle.esb_flags.specs.declared.command.Command.TheVariants as command
 use Rattle.esb_flags.specs.Fields.{Answer as Asked}
 use Rattle.esb_flags.specs.Command.{asked}
+use Rattle.esb_ask.specs.declared.question.Question.{Question}
+use Rattle.esb_ask.specs.declared.answer.Answer.{Answer}
+use Rattle.esb_ask.specs.declared.task.Task.{Task}
 use Rattle.esb_ask.specs.declared.outcome.Outcome.{Outcome}
+use Rattle.esb_ask.specs.Table.{kept}
 use Rattle.esb_core.specs.declared.event.Event.{Event}
 use Rattle.esb_core.specs.declared.event.Event.TheVariants as event
 use Rattle.esb_core.specs.Moves.{most_builds, most_contexts, most_waiting, key_of, options_of, is_full, too_many, refusal}
+use Rattle.esb_core.specs.Sizes.{bytes_in, files, most_answers, most_contents, most_files, is_overfull}
 use Rattle.esb_core.specs.Steps.{without}
-use Rattle.esb_core.specs.History.{Begun, crowd, met_in, moves_in, contexts, context, active_build, builds, build, waiting, outcome, is_legal, replay}
-use Rattle.esb_core.specs.Laws.{Verdict, refused, accepted, verdict_by, verdict_of, verdict, if_idle, begins_by, begins, joined_build, if_same, waits_by, waits, gone_if, contexts_by, gone_unless, contexts_at, IsWithinLimits}
+use Rattle.esb_core.specs.History.{Begun, crowd, met_in, moves_in, contexts, context, active_build, builds, build, waiting, outcome, kept_pair, table, is_legal, replay}
+use Rattle.esb_core.specs.Laws.{Verdict, refused, accepted, verdict_by, verdict_of, verdict, if_idle, begins_by, begins, joined_build, if_same, waits_by, waits, gone_if, contexts_by, gone_unless, gone_large, overfull, overopened, answered_if, answers, contexts_at, IsWithinLimits}
 use Rattle.esb_core.proofs.Grown.{past-end}
 use Rattle.esb_core.proofs.Laws.{read-legal}
-use Rattle.esb_core.proofs.Legal.{each_legal}
+use Rattle.esb_core.proofs.Files.{few-files}
+use Rattle.esb_core.proofs.Legal.{each, each_legal}
 use Rattle.esb_core.proofs.Orders.{accepts, lasts, not-full, second}
-use Rattle.esb_core.proofs.Pushed.{builds-pushed, waiting-pushed, contexts-pushed}
+use Rattle.esb_core.proofs.Pushed.{builds-pushed, table-pushed, waiting-pushed, contexts-pushed}
 use Rattle.esb_core.proofs.Readings.{same-number}
+use Rattle.esb_core.proofs.Tasks.{tasks-are}
 
 fewer : {X : Type 0} (key : ℕ) (xs : List (ℕ × X)) → length (without key xs) ≤ length xs
 fewer key [] = omega arith
@@ -42,7 +50,13 @@ record Holds (es : List Event) (id : ℕ) (v : Verdict) : Type 0 where
   few_builds : length (builds es ++ begins_by es v) ≤ most_builds
   few_waiting : (n : ℕ) → length (waiting es n ++ waits_by es n id v) ≤ most_waiting
 
-module _ (es : List Event) (legal : is_legal es ≡ true) (h : IsWithinLimits es) where
+-- what a request and what other events leave of the contexts, the builds and the requests that wait
+record AreFew (es : List Event) : Type 0 where
+  few_contexts : length (contexts es) ≤ most_contexts
+  few_builds : length (builds es) ≤ most_builds
+  few_waiting : (n : ℕ) → length (waiting es n) ≤ most_waiting
+
+module _ (es : List Event) (legal : is_legal es ≡ true) (h : AreFew es) where
   same-length : {X : Type 0} (xs : List X) (most : ℕ) → length xs ≤ most → length (xs ++ []) ≤ most
   same-length xs most few = let same = ap length (append-nil xs) in omega (arith, same, few)
 
@@ -148,6 +162,15 @@ module _ (es : List Event) (legal : is_legal es ≡ true) (h : IsWithinLimits es
     few_waiting = λ n. let few = h.few_waiting n in let same = ap (λ (ids : List ℕ). length (waiting es n ++ ids)) (no_wait n) ∙ ap length (append-nil (waiting es n)) in omega (arith, few, same);
   }
 
+  gone-few : (m : ℕ) (p : Option Outcome) (stays : Bool) → length (gone_unless (record { key = (build es m).key; options = record (build es m).options { context = stays } }) p (contexts es)) ≤ length (contexts es)
+  gone-few m None true = omega arith
+  gone-few m None false = fewer (build es m).key (contexts es)
+  gone-few m (Some p) stays = omega arith
+
+  work-few : (m : ℕ) (large : Bool) → length (gone_large large (build es m) (outcome es m) (contexts es)) ≤ length (contexts es)
+  work-few m true = gone-few m (outcome es m) (build es m).options.context
+  work-few m false = omega arith
+
   event-holds : (e : Event) → After e
   event-holds (event.Arrive p) = by p.request refl
     where
@@ -162,21 +185,52 @@ module _ (es : List Event) (legal : is_legal es ≡ true) (h : IsWithinLimits es
       by false is =
           let same = ap (λ t. length (cond t (contexts_by es (verdict es p)) (contexts es))) is in
           quiet (event.Arrive p) (omega (arith, same)) (ap (λ t. cond t (begins_by es (verdict es p)) []) is) (λ n. ap (λ t. cond t (waits_by es n p.id (verdict es p)) []) is)
-  event-holds (event.Settle worker m o) = quiet (event.Settle worker m o) (by (outcome es m) (build es m).options.context) refl (λ n. refl)
-    where
-      by : (p : Option Outcome) (stays : Bool) → length (gone_unless (record { key = (build es m).key; options = record (build es m).options { context = stays } }) p (contexts es)) ≤ length (contexts es)
-      by None true = omega arith
-      by None false = fewer (build es m).key (contexts es)
-      by (Some p) stays = omega arith
+  event-holds (event.Settle worker m o) = quiet (event.Settle worker m o) (gone-few m (outcome es m) (build es m).options.context) refl (λ n. refl)
   event-holds event.Pop = quiet event.Pop (omega arith) refl (λ n. refl)
   event-holds event.EndOfInput = quiet event.EndOfInput (omega arith) refl (λ n. refl)
   event-holds (event.Claim role job) = quiet (event.Claim role job) (omega arith) refl (λ n. refl)
-  event-holds (event.Record worker m q a) = quiet (event.Record worker m q a) (omega arith) refl (λ n. refl)
-  event-holds (event.Deliver worker m t p) = quiet (event.Deliver worker m t p) (omega arith) refl (λ n. refl)
+  event-holds (event.Record worker m q a) = quiet (event.Record worker m q a) (work-few m (overfull es m q a)) refl (λ n. refl)
+  event-holds (event.Deliver worker m t p) = quiet (event.Deliver worker m t p) (work-few m (overopened es m p)) refl (λ n. refl)
 
-pub within-limits : (events : List Event) → is_legal events ≡ true → IsWithinLimits events
-within-limits events legal =
-    each_legal IsWithinLimits (record { few_contexts = omega arith; few_builds = omega arith; few_waiting = λ n. omega arith })
+-- ---- what a build keeps and opens
+
+-- a table with no more answers and bytes than a build may keep
+record IsWithin (table : List (Question × Answer)) : Type 0 where
+  few_answers : length table ≤ most_answers
+  few_bytes : bytes_in table ≤ most_contents
+
+not-over : (most n : ℕ) → nat_lt most n ≡ false → n ≤ most
+not-over most n e = grind (arith)
+
+within-full : (table : List (Question × Answer)) → is_overfull table ≡ false → IsWithin table
+within-full table e = by (nat_lt most_answers (length table)) refl e
+  where
+    by : (t : Bool) → nat_lt most_answers (length table) ≡ t → (t || nat_lt most_contents (bytes_in table)) ≡ false → IsWithin table
+    by true is f = absurd (false≢true (sym f))
+    by false is f = record { few_answers = not-over most_answers (length table) is; few_bytes = not-over most_contents (bytes_in table) f }
+
+-- an answer is kept where the table is within its limits with it
+kept-within : (es : List Event) (n : ℕ) (e : Event) → IsWithin (table es n) → IsWithin (fold kept_pair (table es n) (answers es n e))
+kept-within es n (event.Record worker m q a) h = by (nat_eq m n) refl (outcome es m) (overfull es m q a) refl
+  where
+    by : (t : Bool) → nat_eq m n ≡ t → (o : Option Outcome) (large : Bool) → overfull es m q a ≡ large → IsWithin (fold kept_pair (table es n) (cond t (answered_if o large q a) []))
+    by true same None false small = within-full (kept (table es n) q a) (ap (λ (k : ℕ). overfull es k q a) (sym (eqb-true m n same)) ∙ small)
+    by true same None true over = h
+    by true same (Some o) large is = h
+    by false apart o large is = h
+kept-within es n (event.Arrive p) h = h
+kept-within es n event.EndOfInput h = h
+kept-within es n (event.Claim role job) h = h
+kept-within es n (event.Deliver worker m t p) h = h
+kept-within es n (event.Settle worker m o) h = h
+kept-within es n event.Pop h = h
+
+table-within : (n : ℕ) (events : List Event) → IsWithin (table events n)
+table-within n events = each (λ es. IsWithin (table es n)) (record { few_answers = omega arith; few_bytes = omega arith }) (λ es e h. subst IsWithin (sym (table-pushed es n e)) (kept-within es n e h)) events
+
+few : (events : List Event) → is_legal events ≡ true → AreFew events
+few events legal =
+    each_legal AreFew (record { few_contexts = omega arith; few_builds = omega arith; few_waiting = λ n. omega arith })
     (λ es e before may h.
     let g = event-holds es before h e in
     record {
@@ -185,3 +239,15 @@ within-limits events legal =
       few_waiting = λ n. let same = ap length (waiting-pushed es n e) in let few = g.few_waiting n in omega (arith, same, few);
     })
     events legal
+
+pub within-limits : (events : List Event) → is_legal events ≡ true → IsWithinLimits events
+within-limits events legal =
+    let g = few events legal in
+    record {
+      few_contexts = g.few_contexts;
+      few_builds = g.few_builds;
+      few_waiting = g.few_waiting;
+      few_answers = λ n. (table-within n events).few_answers;
+      few_contents = λ n. (table-within n events).few_bytes;
+      few_files = λ n. subst (λ (ts : List Task). files ts ≤ most_files) (tasks-are events legal n) (few-files events legal n);
+    }

@@ -4,10 +4,11 @@ use Rattle.std.specs.List.{fold, count_by}
 use Rattle.std.proofs.lemmas.List.Sums.{fold-append, sum_by-append}
 use Rattle.esb_ask.specs.declared.question.Question.{Question}
 use Rattle.esb_ask.specs.declared.answer.Answer.{Answer}
+use Rattle.esb_ask.specs.declared.task.Task.{Task}
 use Rattle.esb_ask.specs.declared.outcome.Outcome.{Outcome}
 use Rattle.esb_core.specs.declared.event.Event.{Event}
-use Rattle.esb_core.specs.Moves.{Move, make, remove, begin, join, owe, keep, close, take}
-use Rattle.esb_core.specs.History.{gathered_from, gathered, context_at, contexts_in, active_at, active_in, begun_at, builds_in, waits_with, waiting_in, closed_by, or_later, outcome_in, answers_with, answers_in, kept_pair, table_in, owes, owed_in, moves_after, moves_from, moves_in}
+use Rattle.esb_core.specs.Moves.{Move, make, remove, begin, join, owe, keep, assign, close, take}
+use Rattle.esb_core.specs.History.{gathered_from, gathered, context_at, contexts_in, active_at, active_in, begun_at, builds_in, waits_with, waiting_in, closed_by, or_later, outcome_in, answers_with, answers_in, kept_pair, table_in, opens_with, opens_in, owes, owed_in, moves_after, moves_from, moves_in}
 
 pub contexts-push : (ms : List Move) (m : Move) → contexts_in (ms ++ m ∷ []) ≡ context_at (contexts_in ms) m
 contexts-push ms m = fold-append context_at [] ms (m ∷ [])
@@ -34,6 +35,7 @@ waits-past n (remove key) xs ys = refl
 waits-past n (begin k key options) xs ys = refl
 waits-past n (owe o) xs ys = refl
 waits-past n (keep k q a) xs ys = refl
+waits-past n (assign k t) xs ys = refl
 waits-past n (close key k o) xs ys = refl
 waits-past n take xs ys = refl
 
@@ -78,6 +80,7 @@ answers-past n (remove key) xs ys = refl
 answers-past n (begin k key options) xs ys = refl
 answers-past n (join k id) xs ys = refl
 answers-past n (owe o) xs ys = refl
+answers-past n (assign k t) xs ys = refl
 answers-past n (close key k o) xs ys = refl
 answers-past n take xs ys = refl
 
@@ -90,6 +93,34 @@ table-append ms ns n = ap (λ xs. fold kept_pair [] xs) (answers-append ms ns n)
 
 pub table-push : (ms : List Move) (m : Move) (n : ℕ) → table_in (ms ++ m ∷ []) n ≡ fold kept_pair (table_in ms n) (gives n m)
 table-push ms m n = table-append ms (m ∷ []) n
+
+-- ---- tasks
+
+-- the task that one move gives to a build
+abbrev pub gets : ℕ → Move → List Task
+gets n m = opens_with n m []
+
+opens-past : (n : ℕ) (m : Move) (xs ys : List Task) → opens_with n m (xs ++ ys) ≡ opens_with n m xs ++ ys
+opens-past n (assign k t) xs ys = by (nat_eq k n)
+  where
+    by : (s : Bool) → cond s (t ∷ xs ++ ys) (xs ++ ys) ≡ cond s (t ∷ xs) xs ++ ys
+    by true = refl
+    by false = refl
+opens-past n (make key options) xs ys = refl
+opens-past n (remove key) xs ys = refl
+opens-past n (begin k key options) xs ys = refl
+opens-past n (join k id) xs ys = refl
+opens-past n (owe o) xs ys = refl
+opens-past n (keep k q a) xs ys = refl
+opens-past n (close key k o) xs ys = refl
+opens-past n take xs ys = refl
+
+pub opens-append : (ms ns : List Move) (n : ℕ) → opens_in (ms ++ ns) n ≡ opens_in ms n ++ opens_in ns n
+opens-append [] ns n = refl
+opens-append (m ∷ ms) ns n = ap (λ ts. opens_with n m ts) (opens-append ms ns n) ∙ opens-past n m (opens_in ms n) (opens_in ns n)
+
+pub opens-push : (ms : List Move) (m : Move) (n : ℕ) → opens_in (ms ++ m ∷ []) n ≡ opens_in ms n ++ gets n m
+opens-push ms m n = opens-append ms (m ∷ []) n
 
 -- ---- what each gives with those before it
 

@@ -19,9 +19,10 @@ use Rattle.esb_core.specs.declared.event.Role.TheVariants as role
 use Rattle.esb_core.specs.declared.event.Event.{Event}
 use Rattle.esb_core.specs.declared.event.Event.TheVariants as event
 use Rattle.esb_core.specs.State.{Building, State, build_at, no_build, start}
+use Rattle.esb_core.specs.Sizes.{opened}
 use Rattle.esb_core.specs.Moves.{Move, closed, closed_unless}
 use Rattle.esb_core.specs.Steps
-use Rattle.esb_core.specs.Steps.{after, moves, all_moved, standing, fresh, joined, answered, ended_by, entry_tasks_from, named, opened, task_claimed, link_claimed, delivered, released}
+use Rattle.esb_core.specs.Steps.{after, moves, all_moved, standing, fresh, joined, answered, tasked, ended_by, entry_tasks_from, task_claimed, link_claimed, released}
 use Rattle.esb_core.specs.Allowed.{allowed, has_begun, first_job, names_job, may_settle}
 use Rattle.esb_core.specs.History.{is_legal, replay}
 use Rattle.esb_core.specs.Work.{claims_task, claims_link}
@@ -161,9 +162,9 @@ opened-once b c n es (Some u) tasks claimed outcome linker h = by (list_any (sam
       once = h.once;
     }
 
-delivered-once : (b : Building) (n : ℕ) (es : List Event) (worker : ℕ) (t : Task) (p : Product) (o : Option Outcome) → IsOnce b n es → IsOnce (delivered b worker t p o) n es
-delivered-once b n es worker t p None h = opened-once b (delivered b worker t p None) n es (named p) refl refl refl refl h
-delivered-once b n es worker t p (Some o) h = reshaped b (delivered b worker t p (Some o)) n es refl refl (λ none free. (none, free)) h
+-- the claim of a task ends
+back-once : (b : Building) (n : ℕ) (es : List Event) (worker : ℕ) (t : Task) → IsOnce b n es → IsOnce (Steps.unclaimed b worker t) n es
+back-once b n es worker t h = reshaped b (Steps.unclaimed b worker t) n es refl refl (λ none free. (none, free)) h
 
 -- a worker claims the first task that is open
 scan-once : (b : Building) (n : ℕ) (es : List Event) (worker : ℕ) (t : Task) → slice_get b.tasks b.claimed ≡ Some t → b.claimed < length b.tasks → IsOnce b n es
@@ -235,6 +236,7 @@ moved-once s ms es all =
     each-all_moved (λ n b. IsOnce b n es) (λ n key options h. fresh-once n es key options h)
     (λ n b id h. reshaped b (joined b id) n es refl refl (λ none free. (none, free)) h)
     (λ n b q a h. reshaped b (answered b q a) n es refl refl (λ none free. (none, free)) h)
+    (λ n b t h. opened-once b (tasked b t) n es (Some t) refl refl refl refl h)
     (λ n b o h. reshaped b (ended_by b o) n es refl refl (λ none free. absurd (let f : ⊥ = cc in f)) h)
     s ms all
 
@@ -290,8 +292,10 @@ is_settled_after s worker n o may = by (build_at s.builds n).outcome refl
 step-once : (s : State) (es : List Event) (e : Event) → AreOnce s.builds es → allowed s e ≡ true → (let t : State = after s e in AreOnce t.builds (es ++ e ∷ []))
 step-once s es (event.Claim r j) all may = claims-once s es all r j may
 step-once s es (event.Deliver worker n t p) all may =
-    changes-once s es all (event.Deliver worker n t p) n (delivered (build_at s.builds n) worker t p (build_at s.builds n).outcome) (λ m u. refl) (λ m. refl)
-    (delivered-once (build_at s.builds n) n es worker t p (build_at s.builds n).outcome (all n))
+    let u : State = all_moved s (moves s (event.Deliver worker n t p)) in
+    let now : AreOnce u.builds es = moved-once s (moves s (event.Deliver worker n t p)) es all in
+    changes-once u es now (event.Deliver worker n t p) n (Steps.unclaimed (build_at u.builds n) worker t) (λ m v. refl) (λ m. refl)
+    (back-once (build_at u.builds n) n es worker t (now n))
 step-once s es (event.Settle worker n o) all may =
     let t : State = all_moved s (moves s (event.Settle worker n o)) in
     let now : AreOnce t.builds es = moved-once s (moves s (event.Settle worker n o)) es all in

@@ -14,16 +14,20 @@ use Rattle.esb_flags.specs.Fields.{Answer as Asked}
 use Rattle.esb_flags.specs.Command.{asked}
 use Rattle.esb_ask.specs.declared.question.Question.{Question}
 use Rattle.esb_ask.specs.declared.answer.Answer.{Answer}
+use Rattle.esb_ask.specs.declared.task.Task.{Task}
+use Rattle.esb_ask.specs.declared.product.Product.{Product}
 use Rattle.esb_ask.specs.declared.outcome.Outcome.{Outcome}
 use Rattle.esb_ask.specs.declared.outcome.Outcome.TheVariants as outcome
-use Rattle.esb_ask.specs.Table.{fits}
+use Rattle.esb_ask.specs.Table.{fits, kept}
+use Rattle.esb_ask.specs.Tasks.{product_fits}
 use Rattle.esb_core.specs.declared.event.Event.{Event}
 use Rattle.esb_core.specs.declared.event.Event.TheVariants as event
 use Rattle.esb_core.specs.State.{Building, State, build_at, no_build}
-use Rattle.esb_core.specs.Moves.{Move, make, remove, begin, join, owe, keep, close, take, most_builds, most_contexts, most_waiting, key_of, options_of, is_full, first_of, too_many, refusal, done, begun, joined_or_begun, closed, canceled, effect, refused_or, requested, kept_unless, closed_unless}
+use Rattle.esb_core.specs.Moves.{Move, make, remove, begin, join, owe, keep, assign, close, take, Standing, most_builds, most_contexts, most_waiting, key_of, options_of, is_full, first_of, too_many, refusal, done, begun, joined_or_begun, closed, canceled, effect, refused_or, requested, added_or, kept_unless, opens, opened_unless, closed_unless}
+use Rattle.esb_core.specs.Sizes.{named, opened, with_task, is_overfull, has_too_many, too_large}
 use Rattle.esb_core.specs.Steps
-use Rattle.esb_core.specs.Steps.{moved, all_moved, fresh, joined, answered, ended_by, without, active_of, met, standing, moves}
-use Rattle.esb_core.specs.Allowed.{allowed, has_begun, may_settle}
+use Rattle.esb_core.specs.Steps.{moved, all_moved, fresh, joined, answered, tasked, ended_by, without, active_of, met, standing, moves}
+use Rattle.esb_core.specs.Allowed.{allowed, has_begun, has_task, may_settle}
 use Rattle.esb_core.specs.Order.{IsActive, IsOrdered}
 use Rattle.esb_core.proofs.Claims.{both_parts}
 use Rattle.esb_core.proofs.Lookups.{self, some-or, not_none, lookup-found, lookup-last, lookup-split, without-same, without-other, without-found}
@@ -34,6 +38,12 @@ use Rattle.esb_core.proofs.Lookups.{self, some-or, not_none, lookup-found, looku
 pub record IsUnsettled (s : State) (n : ℕ) : Type 0 where
   pub begun : n < length s.builds
   pub unsettled : (build_at s.builds n).outcome ≡ None
+
+-- the same, and the task doesn't make its files too many
+pub record IsRoom (s : State) (n : ℕ) (t : Task) : Type 0 where
+  pub begun : n < length s.builds
+  pub unsettled : (build_at s.builds n).outcome ≡ None
+  pub few : has_too_many (with_task (build_at s.builds n).tasks t) ≡ false
 
 -- the build is the next, in a context that has none
 pub record IsNext (s : State) (n key : ℕ) : Type 0 where
@@ -49,6 +59,7 @@ Fits s (begin n key options) = IsNext s n key
 Fits s (join n id) = IsUnsettled s n
 Fits s (owe o) = Unit {0}
 Fits s (keep n q a) = IsUnsettled s n
+Fits s (assign n t) = IsRoom s n t
 Fits s (close key n o) = IsActive s key n
 Fits s take = 0 < length s.owed
 
@@ -239,6 +250,9 @@ moved-ordered s (owe o) f h = same-builds s (moved s (owe o)) refl refl refl (λ
 moved-ordered s (keep n q a) f h =
     same-builds s (moved s (keep n q a)) refl refl (length-set s.builds n (answered (build_at s.builds n) q a)) (λ m. set-same (λ c. c.outcome) s.builds n (answered (build_at s.builds n) q a) m f.begun refl)
     (λ m. set-same (λ c. c.key) s.builds n (answered (build_at s.builds n) q a) m f.begun refl) h
+moved-ordered s (assign n t) f h =
+    same-builds s (moved s (assign n t)) refl refl (length-set s.builds n (tasked (build_at s.builds n) t)) (λ m. set-same (λ c. c.outcome) s.builds n (tasked (build_at s.builds n) t) m f.begun refl)
+    (λ m. set-same (λ c. c.key) s.builds n (tasked (build_at s.builds n) t) m f.begun refl) h
 moved-ordered s (close key n o) f h = closes-ordered s h key n o f
 moved-ordered s take f h = same-builds s (moved s take) refl refl refl (λ m. refl) (λ m. refl) h
 
@@ -359,10 +373,6 @@ module _ (s : State) (h : IsOrdered s) where
   arrive-fits p true = request-fits p.id (asked p.value)
   arrive-fits p false = tt
 
-  record-fits : (n : ℕ) (q : Question) (a : Answer) (o : Option Outcome) → n < length s.builds → (build_at s.builds n).outcome ≡ o → AllFit s (kept_unless n q a o)
-  record-fits n q a None lt is = (record { begun = lt; unsettled = is }, tt)
-  record-fits n q a (Some o) lt is = tt
-
   pub settle-fits : (n : ℕ) (o : Outcome) (p : Option Outcome) → n < length s.builds → (build_at s.builds n).outcome ≡ p → AllFit s (closed_unless (standing s n) n o p)
   settle-fits n o None lt is = by (build_at s.builds n).options.context
     where
@@ -374,6 +384,23 @@ module _ (s : State) (h : IsOrdered s) where
       by false = (its, (without-same (build_at s.builds n).key s.active, tt))
   settle-fits n o (Some p) lt is = tt
 
+  -- what work adds fits, or else the end of the build does
+  added-fits : (n : ℕ) (large : Bool) (adds : List Move) → n < length s.builds → (build_at s.builds n).outcome ≡ None → (large ≡ false → AllFit s adds) → AllFit s (added_or (standing s n) n large adds)
+  added-fits n true adds lt is fit = settle-fits n too_large None lt is
+  added-fits n false adds lt is fit = fit refl
+
+  record-fits : (n : ℕ) (q : Question) (a : Answer) (o : Option Outcome) → n < length s.builds → (build_at s.builds n).outcome ≡ o → AllFit s (kept_unless (standing s n) n q a o)
+  record-fits n q a None lt is = added-fits n (is_overfull (kept (build_at s.builds n).table q a)) (keep n q a ∷ []) lt is (λ small. (record { begun = lt; unsettled = is }, tt))
+  record-fits n q a (Some o) lt is = tt
+
+  opens-fit : (n : ℕ) (t : Option Task) → n < length s.builds → (build_at s.builds n).outcome ≡ None → has_too_many (opened (build_at s.builds n).tasks t) ≡ false → AllFit s (opens n t)
+  opens-fit n None lt is few = tt
+  opens-fit n (Some t) lt is few = (record { begun = lt; unsettled = is; few = few }, tt)
+
+  deliver-fits : (n : ℕ) (t : Option Task) (o : Option Outcome) → n < length s.builds → (build_at s.builds n).outcome ≡ o → AllFit s (opened_unless (standing s n) n t o)
+  deliver-fits n t None lt is = added-fits n (has_too_many (opened (build_at s.builds n).tasks t)) (opens n t) lt is (λ few. opens-fit n t lt is few)
+  deliver-fits n t (Some o) lt is = tt
+
   pub event-fits : (e : Event) → allowed s e ≡ true → AllFit s (moves s e)
   event-fits (event.Arrive packet) may = arrive-fits packet packet.request
   event-fits (event.Record worker n q a) may = record-fits n q a (build_at s.builds n).outcome (ltb-true n (length s.builds) (both_parts (has_begun s n) (fits q a) may).0) refl
@@ -382,4 +409,5 @@ module _ (s : State) (h : IsOrdered s) where
   event-fits event.Pop may = (ltb-true 0 (length s.owed) may, tt)
   event-fits event.EndOfInput may = tt
   event-fits (event.Claim role job) may = tt
-  event-fits (event.Deliver worker n t p) may = tt
+  event-fits (event.Deliver worker n t p) may =
+      deliver-fits n (named p) (build_at s.builds n).outcome (ltb-true n (length s.builds) (both_parts (has_begun s n) (has_task (build_at s.builds n) worker t && product_fits t p) may).0) refl

@@ -1,6 +1,7 @@
 -- What each event changes in what a list answers.
 use Rattle.std.proofs.Common.{◌≡◌, ℕ, Bool, true, false, cond, List, [], ◌∷◌, ◌++◌, length, Option, None, Some, Ok, Err, refl, sym, ap, ◌∙◌, append_assoc, append-nil, nat_eq, eqb-true}
 use Rattle.std.specs.List.{fold}
+use Rattle.std.specs.Option.{option_to_list}
 use Rattle.std.proofs.lemmas.List.Sums.{fold-append}
 use Rattle.esb_wire.specs.declared.value.Packet.{Packet}
 use Rattle.esb_flags.specs.declared.options.Options.{Options}
@@ -10,16 +11,21 @@ use Rattle.esb_flags.specs.Fields.{Answer as Asked}
 use Rattle.esb_flags.specs.Command.{asked}
 use Rattle.esb_ask.specs.declared.question.Question.{Question}
 use Rattle.esb_ask.specs.declared.answer.Answer.{Answer}
+use Rattle.esb_ask.specs.declared.task.Task.{Task}
+use Rattle.esb_ask.specs.declared.product.Product.{Product}
 use Rattle.esb_ask.specs.declared.outcome.Outcome.{Outcome}
 use Rattle.esb_ask.specs.declared.outcome.Outcome.TheVariants as outcome_of
 use Rattle.esb_core.specs.declared.out.Out.{Out}
 use Rattle.esb_core.specs.declared.event.Event.{Event}
 use Rattle.esb_core.specs.declared.event.Event.TheVariants as event
-use Rattle.esb_core.specs.Moves.{Move, make, remove, begin, join, owe, keep, close, take, Met, key_of, options_of, refusal, effect, refused_or, requested, done, refused as refused_moves, begun as begun_moves, joined_or_begun, closed, canceled, kept_unless, closed_unless}
+use Rattle.esb_core.specs.Moves.{Move, make, remove, begin, join, owe, keep, assign, close, take, Met, Standing, key_of, options_of, refusal, effect, refused_or, requested, done, refused as refused_moves, begun as begun_moves, joined_or_begun, closed, canceled, added_or, kept_unless, opens, opened_unless, closed_unless}
+use Rattle.esb_core.specs.Sizes.{named, opened, is_overfull, has_too_many, too_large}
+use Rattle.esb_ask.specs.Table.{kept}
+use Rattle.esb_core.specs.Work.{names, unless_settled, unless_large}
 use Rattle.esb_core.specs.Steps.{results, without}
-use Rattle.esb_core.specs.History.{gathered_from, context_at, contexts_in, Begun, begun_at, builds_in, waits_with, waiting_in, or_later, outcome_in, answers_in, kept_pair, table_in, owes, owed_in, met_in, standing_in, moves_after, moves_in, contexts, context, active_build, builds, build, waiting, outcome, table, all_owed}
-use Rattle.esb_core.specs.Laws.{Verdict, refused, accepted, verdict_by, verdict_of, verdict, if_idle, begins_by, begins, joined_build, if_same, waits_by, waits, canceled_if, settled_by, settles, answered_if, answers, empty, results_for, owed_by, results_unless, owes_at, gone_if, contexts_by, gone_unless, contexts_at}
-use Rattle.esb_core.proofs.Moving.{or_later-None, waiting-append, outcome-append, table-append, gathered_from-append, moves-push}
+use Rattle.esb_core.specs.History.{gathered_from, context_at, contexts_in, Begun, begun_at, builds_in, waits_with, waiting_in, or_later, outcome_in, answers_in, kept_pair, table_in, opens_in, owes, owed_in, met_in, standing_in, moves_after, moves_in, contexts, context, active_build, builds, build, waiting, outcome, table, tasks, all_owed}
+use Rattle.esb_core.specs.Laws.{Verdict, refused, accepted, verdict_by, verdict_of, verdict, if_idle, begins_by, begins, joined_build, if_same, waits_by, waits, canceled_if, settled_by, settles, large_if, overfull, overopened, answered_if, answers, empty, results_for, owed_by, results_unless, results_if, owes_at, gone_if, contexts_by, gone_unless, gone_large, contexts_at}
+use Rattle.esb_core.proofs.Moving.{or_later-None, waiting-append, outcome-append, table-append, opens-append, gathered_from-append, moves-push}
 
 -- ---- builds
 
@@ -37,6 +43,7 @@ begun-from bs (remove key ∷ ms) = begun-from bs ms
 begun-from bs (join n id ∷ ms) = begun-from bs ms
 begun-from bs (owe o ∷ ms) = begun-from bs ms
 begun-from bs (keep n q a ∷ ms) = begun-from bs ms
+begun-from bs (assign n t ∷ ms) = begun-from bs ms
 begun-from bs (close key n o ∷ ms) = begun-from bs ms
 begun-from bs (take ∷ ms) = begun-from bs ms
 
@@ -54,6 +61,30 @@ by_stays_then P key stays n o more one two = by stays
     by : (t : Bool) → P (close key n o ∷ cond t [] (remove key ∷ []) ++ more)
     by true = one
     by false = two
+
+-- what holds of the moves of an answer, whether it is kept, or the build is settled or ends by it
+pub by_kept : (P : List Move → Type 0) (at : Standing) (n : ℕ) (q : Question) (a : Answer) (o : Option Outcome)
+    → P (close at.key n too_large ∷ []) → P (close at.key n too_large ∷ remove at.key ∷ []) → P (keep n q a ∷ []) → P [] → P (kept_unless at n q a o)
+by_kept P at n q a (Some o) one two plain none = none
+by_kept P at n q a None one two plain none = by (is_overfull (kept at.table q a))
+  where
+    by : (large : Bool) → P (added_or at n large (keep n q a ∷ []))
+    by true = by_stays P at.key at.stays n too_large one two
+    by false = plain
+
+-- the same of a delivered task
+pub by_opened : (P : List Move → Type 0) (at : Standing) (n : ℕ) (u : Option Task) (o : Option Outcome)
+    → P (close at.key n too_large ∷ []) → P (close at.key n too_large ∷ remove at.key ∷ []) → ((t : Task) → P (assign n t ∷ [])) → P [] → P (opened_unless at n u o)
+by_opened P at n u (Some o) one two plain none = none
+by_opened P at n u None one two plain none = by (has_too_many (opened at.tasks u))
+  where
+    adds : (v : Option Task) → P (opens n v)
+    adds None = none
+    adds (Some t) = plain t
+
+    by : (large : Bool) → P (added_or at n large (opens n u))
+    by true = by_stays P at.key at.stays n too_large one two
+    by false = adds u
 
 module _ (before : List Event) where
   abbrev pub ms : List Move
@@ -113,11 +144,7 @@ module _ (before : List Event) where
 
   begun-event : (e : Event) → begun_in (moves_after ms e) ≡ begins before e
   begun-event (event.Arrive p) = by_packet begun_in (begins_by before) [] refl p (λ a. by_verdict begun_in (begins_by before) p.id (λ text. refl) (λ c is. begins-moves p.id c) a)
-  begun-event (event.Record worker n q a) = by (outcome_in ms n)
-    where
-      by : (o : Option Outcome) → begun_in (kept_unless n q a o) ≡ []
-      by None = refl
-      by (Some o) = refl
+  begun-event (event.Record worker n q a) = by_kept (λ ns. begun_in ns ≡ []) (standing_in ms n) n q a (outcome_in ms n) refl refl refl refl
   begun-event (event.Settle worker n o) = by (outcome_in ms n)
     where
       by : (p : Option Outcome) → begun_in (closed_unless (standing_in ms n) n o p) ≡ []
@@ -126,7 +153,7 @@ module _ (before : List Event) where
   begun-event event.Pop = refl
   begun-event event.EndOfInput = refl
   begun-event (event.Claim role job) = refl
-  begun-event (event.Deliver worker n t p) = refl
+  begun-event (event.Deliver worker n t p) = by_opened (λ ns. begun_in ns ≡ []) (standing_in ms n) n (named p) (outcome_in ms n) refl refl (λ u. refl) refl
 
   pub builds-pushed : (e : Event) → builds (before ++ e ∷ []) ≡ builds before ++ begins before e
   builds-pushed e =
@@ -165,11 +192,7 @@ module _ (before : List Event) where
 
     waits-event : (e : Event) → Waits (moves_after ms e) ≡ waits before n e
     waits-event (event.Arrive p) = by_packet Waits (waits_by before n p.id) [] refl p (λ a. by_verdict Waits (waits_by before n p.id) p.id (λ text. refl) (λ c is. waits-moves p.id c) a)
-    waits-event (event.Record worker m q a) = by (outcome_in ms m)
-      where
-        by : (o : Option Outcome) → Waits (kept_unless m q a o) ≡ []
-        by None = refl
-        by (Some o) = refl
+    waits-event (event.Record worker m q a) = by_kept (λ ns. Waits ns ≡ []) (standing_in ms m) m q a (outcome_in ms m) refl refl refl refl
     waits-event (event.Settle worker m o) = by (outcome_in ms m)
       where
         by : (p : Option Outcome) → Waits (closed_unless (standing_in ms m) m o p) ≡ []
@@ -178,7 +201,7 @@ module _ (before : List Event) where
     waits-event event.Pop = refl
     waits-event event.EndOfInput = refl
     waits-event (event.Claim role job) = refl
-    waits-event (event.Deliver worker m t p) = refl
+    waits-event (event.Deliver worker m t p) = by_opened (λ ns. Waits ns ≡ []) (standing_in ms m) m (named p) (outcome_in ms m) refl refl (λ u. refl) refl
 
     pub waiting-pushed : (e : Event) → waiting (before ++ e ∷ []) n ≡ waiting before n ++ waits before n e
     waiting-pushed e = ap Waits (moves-push before e) ∙ waiting-append ms (moves_after ms e) n ∙ ap (λ (ids : List ℕ). waiting before n ++ ids) (waits-event e)
@@ -229,18 +252,47 @@ module _ (before : List Event) where
             ap (λ q. or_later q None) mine ∙ sym (ap (λ q. or_later q (Some o)) mine)
         settle m o (Some p) false is some = refl
 
+        -- what work ends that isn't settled, and what it adds to it
+        adds : (m : ℕ) (large : Bool) (more : List Move) → Ends more ≡ None → Ends (added_or (standing_in ms m) m large more) ≡ cond (nat_eq m n) (large_if large) None
+        adds m true more none = by_stays (λ ns. Ends ns ≡ cond (nat_eq m n) (Some too_large) None) (standing_in ms m).key (standing_in ms m).stays m too_large own own
+          where
+            own : or_later (cond (nat_eq m n) (Some too_large) None) None ≡ cond (nat_eq m n) (Some too_large) None
+            own = or_later-None (cond (nat_eq m n) (Some too_large) None)
+        adds m false more none = none ∙ by (nat_eq m n)
+          where
+            by : (t : Bool) → ◌≡◌ {A = Option Outcome} None (cond t None None)
+            by true = refl
+            by false = refl
+
+        -- once a build is settled, what comes later changes nothing
+        later : (m : ℕ) (p : Outcome) (q : Option Outcome) (t : Bool) → nat_eq m n ≡ t → outcome before m ≡ Some p → or_later (outcome before n) None ≡ or_later (outcome before n) (cond t q None)
+        later m p q true is some =
+            let mine : outcome before n ≡ Some p = ap (λ (k : ℕ). outcome before k) (sym (eqb-true m n is)) ∙ some in
+            ap (λ o. or_later o None) mine ∙ sym (ap (λ o. or_later o q) mine)
+        later m p q false is some = refl
+
+        answer : (m : ℕ) (q : Question) (a : Answer) (o : Option Outcome) → outcome before m ≡ o
+            → or_later (outcome before n) (Ends (kept_unless (standing_in ms m) m q a o)) ≡ or_later (outcome before n) (cond (nat_eq m n) (large_if (overfull before m q a)) None)
+        answer m q a None none = ap (λ o. or_later (outcome before n) o) (adds m (overfull before m q a) (keep m q a ∷ []) refl)
+        answer m q a (Some p) some = later m p (large_if (overfull before m q a)) (nat_eq m n) refl some
+
+        none-ends : (m : ℕ) (u : Option Task) → Ends (opens m u) ≡ None
+        none-ends m None = refl
+        none-ends m (Some t) = refl
+
+        deliver : (m : ℕ) (p : Product) (o : Option Outcome) → outcome before m ≡ o
+            → or_later (outcome before n) (Ends (opened_unless (standing_in ms m) m (named p) o)) ≡ or_later (outcome before n) (cond (nat_eq m n) (large_if (overopened before m p)) None)
+        deliver m p None none = ap (λ o. or_later (outcome before n) o) (adds m (overopened before m p) (opens m (named p)) (none-ends m (named p)))
+        deliver m p (Some o) some = later m o (large_if (overopened before m p)) (nat_eq m n) refl some
+
         at : (e : Event) → or_later (outcome before n) (Ends (moves_after ms e)) ≡ or_later (outcome before n) (settles before n e)
         at (event.Arrive p) = same (event.Arrive p) (by_packet Ends (settled_by before n) None refl p (λ a. by_verdict Ends (settled_by before n) p.id (λ text. refl) (λ c is. ends-moves p.id c) a))
         at (event.Settle worker m o) = settle m o (outcome before m) (nat_eq m n) refl refl
-        at (event.Record worker m q a) = same (event.Record worker m q a) (by (outcome_in ms m))
-          where
-            by : (o : Option Outcome) → Ends (kept_unless m q a o) ≡ None
-            by None = refl
-            by (Some o) = refl
+        at (event.Record worker m q a) = answer m q a (outcome before m) refl
         at event.Pop = refl
         at event.EndOfInput = refl
         at (event.Claim role job) = refl
-        at (event.Deliver worker m t p) = refl
+        at (event.Deliver worker m t p) = deliver m p (outcome before m) refl
 
     -- ---- answers
 
@@ -278,12 +330,19 @@ module _ (before : List Event) where
         nothing : (t : Bool) → ◌≡◌ {A = List (Question × Answer)} (cond t [] []) []
         nothing true = refl
         nothing false = refl
-    answers-event (event.Record worker m q a) = by (outcome_in ms m) (nat_eq m n) refl
+    answers-event (event.Record worker m q a) = by (outcome_in ms m)
       where
-        by : (o : Option Outcome) (t : Bool) → nat_eq m n ≡ t → Answers (kept_unless m q a o) ≡ cond t (answered_if o q a) []
-        by None t is = ap (λ s. cond s ((q, a) ∷ []) []) is
-        by (Some o) true is = refl
-        by (Some o) false is = refl
+        none : (t : Bool) → ◌≡◌ {A = List (Question × Answer)} [] (cond t [] [])
+        none true = refl
+        none false = refl
+
+        adds : (large : Bool) → Answers (added_or (standing_in ms m) m large (keep m q a ∷ [])) ≡ cond (nat_eq m n) (answered_if None large q a) []
+        adds true = by_stays (λ ns. Answers ns ≡ cond (nat_eq m n) [] []) (standing_in ms m).key (standing_in ms m).stays m too_large (none (nat_eq m n)) (none (nat_eq m n))
+        adds false = refl
+
+        by : (o : Option Outcome) → Answers (kept_unless (standing_in ms m) m q a o) ≡ cond (nat_eq m n) (answered_if o (overfull before m q a) q a) []
+        by None = adds (overfull before m q a)
+        by (Some o) = none (nat_eq m n)
     answers-event (event.Settle worker m o) = by (outcome_in ms m)
       where
         by : (p : Option Outcome) → Answers (closed_unless (standing_in ms m) m o p) ≡ []
@@ -292,10 +351,76 @@ module _ (before : List Event) where
     answers-event event.Pop = refl
     answers-event event.EndOfInput = refl
     answers-event (event.Claim role job) = refl
-    answers-event (event.Deliver worker m t p) = refl
+    answers-event (event.Deliver worker m t p) = by_opened (λ ns. Answers ns ≡ []) (standing_in ms m) m (named p) (outcome_in ms m) refl refl (λ u. refl) refl
 
     pub table-pushed : (e : Event) → table (before ++ e ∷ []) n ≡ fold kept_pair (table before n) (answers before n e)
     table-pushed e = ap (λ ns. table_in ns n) (moves-push before e) ∙ table-append ms (moves_after ms e) n ∙ ap (λ xs. fold kept_pair (table before n) xs) (answers-event e)
+
+    -- ---- tasks
+
+    abbrev Gets : List Move → List Task
+    Gets ns = opens_in ns n
+
+    gets-moves : (id : ℕ) (c : Command) → Gets (effect (found (key_of c)) id c) ≡ []
+    gets-moves id (command.Build key options) = by options.context
+      where
+        by : (stays : Bool) → Gets (make key options ∷ cond stays (done id) (begun_moves (found key) id key options)) ≡ []
+        by true = refl
+        by false = refl
+    gets-moves id (command.Rebuild key) = by (active_build before key)
+      where
+        by : (o : Option ℕ) → Gets (joined_or_begun (found key) id key o) ≡ []
+        by (Some m) = refl
+        by None = refl
+    gets-moves id (command.Cancel key) = by (active_build before key)
+      where
+        by : (o : Option ℕ) → Gets (canceled key (options_of (context before key)).context o ++ done id) ≡ []
+        by None = refl
+        by (Some m) = by_stays_then (λ ns. Gets ns ≡ []) key (options_of (context before key)).context m outcome_of.Canceled (done id) refl refl
+    gets-moves id (command.Dispose key) = by (active_build before key)
+      where
+        by : (o : Option ℕ) → Gets (canceled key true o ++ remove key ∷ done id) ≡ []
+        by None = refl
+        by (Some m) = refl
+    gets-moves id (command.Watch key) = refl
+    gets-moves id (command.Serve key port) = refl
+    gets-moves id command.Ping = refl
+
+    gets-event : (e : Event) → Gets (moves_after ms e) ≡ names n before e
+    gets-event (event.Arrive p) = by_packet Gets (λ v. []) [] refl p (λ a. by_verdict Gets (λ v. []) p.id (λ text. refl) (λ c is. gets-moves p.id c) a) ∙ nothing p.request
+      where
+        nothing : (t : Bool) → ◌≡◌ {A = List Task} (cond t [] []) []
+        nothing true = refl
+        nothing false = refl
+    gets-event (event.Record worker m q a) = by_kept (λ ns. Gets ns ≡ []) (standing_in ms m) m q a (outcome_in ms m) refl refl refl refl
+    gets-event (event.Settle worker m o) = by (outcome_in ms m)
+      where
+        by : (p : Option Outcome) → Gets (closed_unless (standing_in ms m) m o p) ≡ []
+        by None = by_stays (λ ns. Gets ns ≡ []) (standing_in ms m).key (standing_in ms m).stays m o refl refl
+        by (Some p) = refl
+    gets-event (event.Deliver worker m t p) = by (outcome_in ms m)
+      where
+        none : (s : Bool) → ◌≡◌ {A = List Task} [] (cond s [] [])
+        none true = refl
+        none false = refl
+
+        one : (u : Option Task) → Gets (opens m u) ≡ cond (nat_eq m n) (option_to_list u) []
+        one None = none (nat_eq m n)
+        one (Some v) = refl
+
+        adds : (large : Bool) → Gets (added_or (standing_in ms m) m large (opens m (named p))) ≡ cond (nat_eq m n) (option_to_list (unless_large large (named p))) []
+        adds true = by_stays (λ ns. Gets ns ≡ cond (nat_eq m n) [] []) (standing_in ms m).key (standing_in ms m).stays m too_large (none (nat_eq m n)) (none (nat_eq m n))
+        adds false = one (named p)
+
+        by : (o : Option Outcome) → Gets (opened_unless (standing_in ms m) m (named p) o) ≡ cond (nat_eq m n) (option_to_list (unless_settled o (unless_large (overopened before m p) (named p)))) []
+        by None = adds (overopened before m p)
+        by (Some o) = none (nat_eq m n)
+    gets-event event.Pop = refl
+    gets-event event.EndOfInput = refl
+    gets-event (event.Claim role job) = refl
+
+    pub opens-pushed : (e : Event) → opens_in (moves_in (before ++ e ∷ [])) n ≡ opens_in ms n ++ names n before e
+    opens-pushed e = ap (λ ns. opens_in ns n) (moves-push before e) ∙ opens-append ms (moves_after ms e) n ∙ ap (λ (ts : List Task). opens_in ms n ++ ts) (gets-event e)
 
   -- ---- replies
 
@@ -331,13 +456,24 @@ module _ (before : List Event) where
   owes-moves id (command.Serve key port) is = refl
   owes-moves id command.Ping is = refl
 
+  -- work that ends a build owes its results
+  owes-added : (n : ℕ) (adds : List Move) → Owes adds ≡ [] → outcome_in ms n ≡ None → (large : Bool) → Owes (added_or (standing_in ms n) n large adds) ≡ results_if large before n
+  owes-added n adds none is true =
+      by_stays (λ ns. Owes ns ≡ results n (waiting before n)) (standing_in ms n).key (standing_in ms n).stays n too_large (append-nil (results n (waiting before n))) (append-nil (results n (waiting before n)))
+      ∙ ap (results_unless before n) (sym is)
+  owes-added n adds none is false = none
+
+  owes-none : (n : ℕ) (p : Outcome) → outcome_in ms n ≡ Some p → (large : Bool) → [] ≡ results_if large before n
+  owes-none n p is true = ap (results_unless before n) (sym is)
+  owes-none n p is false = refl
+
   pub owes-event : (e : Event) → Owes (moves_after ms e) ≡ owes_at before e
   owes-event (event.Arrive p) = by_packet Owes (owed_by before p.id) [] refl p (λ a. by_verdict Owes (owed_by before p.id) p.id (λ text. refl) (λ c is. owes-moves p.id c is) a)
-  owes-event (event.Record worker m q a) = by (outcome_in ms m)
+  owes-event (event.Record worker n q a) = by (outcome_in ms n) refl
     where
-      by : (o : Option Outcome) → Owes (kept_unless m q a o) ≡ []
-      by None = refl
-      by (Some o) = refl
+      by : (o : Option Outcome) → outcome_in ms n ≡ o → Owes (kept_unless (standing_in ms n) n q a o) ≡ results_if (overfull before n q a) before n
+      by None is = owes-added n (keep n q a ∷ []) refl is (overfull before n q a)
+      by (Some p) is = owes-none n p is (overfull before n q a)
   owes-event (event.Settle worker n o) = by (outcome_in ms n)
     where
       by : (p : Option Outcome) → Owes (closed_unless (standing_in ms n) n o p) ≡ results_unless before n p
@@ -346,7 +482,15 @@ module _ (before : List Event) where
   owes-event event.Pop = refl
   owes-event event.EndOfInput = refl
   owes-event (event.Claim role job) = refl
-  owes-event (event.Deliver worker n t p) = refl
+  owes-event (event.Deliver worker n t p) = by (outcome_in ms n) refl
+    where
+      quiet : (u : Option Task) → Owes (opens n u) ≡ []
+      quiet None = refl
+      quiet (Some v) = refl
+
+      by : (o : Option Outcome) → outcome_in ms n ≡ o → Owes (opened_unless (standing_in ms n) n (named p) o) ≡ results_if (overopened before n p) before n
+      by None is = owes-added n (opens n (named p)) (quiet (named p)) is (overopened before n p)
+      by (Some o) is = owes-none n o is (overopened before n p)
 
   -- ---- contexts
 
@@ -379,23 +523,43 @@ module _ (before : List Event) where
   known-moves id (command.Serve key port) = refl
   known-moves id command.Ping = refl
 
+  known-added : (n : ℕ) (adds : List Move) → Known adds ≡ contexts before → (large : Bool) → Known (added_or (standing_in ms n) n large adds) ≡ gone_large large (build before n) None (contexts before)
+  known-added n adds same false = same
+  known-added n adds same true = by (build before n).options.context
+    where
+      by : (stays : Bool) → Known (closed (build before n).key stays n too_large) ≡ cond stays (contexts before) (without (build before n).key (contexts before))
+      by true = refl
+      by false = refl
+
+  known-none : (n : ℕ) (p : Outcome) (large : Bool) → contexts before ≡ gone_large large (build before n) (Some p) (contexts before)
+  known-none n p true = refl
+  known-none n p false = refl
+
   known-event : (e : Event) → Known (moves_after ms e) ≡ contexts_at before e
   known-event (event.Arrive p) = by_packet Known (contexts_by before) (contexts before) refl p (λ a. by_verdict Known (contexts_by before) p.id (λ text. refl) (λ c is. known-moves p.id c) a)
-  known-event (event.Record worker m q a) = by (outcome_in ms m)
+  known-event (event.Record worker n q a) = by (outcome_in ms n) (overfull before n q a) refl
     where
-      by : (o : Option Outcome) → Known (kept_unless m q a o) ≡ contexts before
-      by None = refl
-      by (Some o) = refl
+      by : (o : Option Outcome) (large : Bool) → overfull before n q a ≡ large → Known (kept_unless (standing_in ms n) n q a o) ≡ gone_large large (build before n) o (contexts before)
+      by None large is = ap (λ l. Known (added_or (standing_in ms n) n l (keep n q a ∷ []))) is ∙ known-added n (keep n q a ∷ []) refl large
+      by (Some o) large is = known-none n o large
   known-event (event.Settle worker n o) = by (outcome_in ms n) (build before n).options.context
     where
-      by : (p : Option Outcome) (stays : Bool) → Known (closed_unless (record { key = (build before n).key; stays = stays; outcome = outcome_in ms n }) n o p) ≡ gone_unless (record { key = (build before n).key; options = record (build before n).options { context = stays } }) p (contexts before)
+      by : (p : Option Outcome) (stays : Bool) → Known (closed_unless (record (standing_in ms n) { stays = stays }) n o p) ≡ gone_unless (record { key = (build before n).key; options = record (build before n).options { context = stays } }) p (contexts before)
       by None true = refl
       by None false = refl
       by (Some p) stays = refl
   known-event event.Pop = refl
   known-event event.EndOfInput = refl
   known-event (event.Claim role job) = refl
-  known-event (event.Deliver worker n t p) = refl
+  known-event (event.Deliver worker n t p) = by (outcome_in ms n) (overopened before n p) refl
+    where
+      quiet : (u : Option Task) → Known (opens n u) ≡ contexts before
+      quiet None = refl
+      quiet (Some v) = refl
+
+      by : (o : Option Outcome) (large : Bool) → overopened before n p ≡ large → Known (opened_unless (standing_in ms n) n (named p) o) ≡ gone_large large (build before n) o (contexts before)
+      by None large is = ap (λ l. Known (added_or (standing_in ms n) n l (opens n (named p)))) is ∙ known-added n (opens n (named p)) (quiet (named p)) large
+      by (Some o) large is = known-none n o large
 
   pub contexts-pushed : (e : Event) → contexts (before ++ e ∷ []) ≡ contexts_at before e
   contexts-pushed e = ap contexts_in (moves-push before e) ∙ fold-append context_at [] ms (moves_after ms e) ∙ known-event e

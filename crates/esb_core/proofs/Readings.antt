@@ -5,21 +5,30 @@ use Rattle.std.specs.List.{fold, count_by}
 use Rattle.std.proofs.Math.Seq.{map-set_same}
 use Rattle.std.proofs.lemmas.List.{get_or-set_same, get_or-set_other, drop-append-le, drop-drop, length-drop, length-append, length-map, map-append}
 use Rattle.std.proofs.lemmas.Bool.{false≢true, eqb-true}
+use Rattle.std.proofs.lemmas.List.Sums.{fold-append}
 use Rattle.esb_flags.specs.declared.options.Options.{Options}
 use Rattle.esb_ask.specs.declared.question.Question.{Question}
 use Rattle.esb_ask.specs.declared.answer.Answer.{Answer}
+use Rattle.esb_ask.specs.declared.task.Task.{Task}
 use Rattle.esb_ask.specs.declared.outcome.Outcome.{Outcome}
 use Rattle.esb_core.specs.declared.out.Out.{Out}
 use Rattle.esb_core.specs.State.{Building, State, build_at, no_build}
-use Rattle.esb_core.specs.Moves.{Move, make, remove, begin, join, owe, keep, close, take, Met}
+use Rattle.esb_core.specs.Moves.{Move, make, remove, begin, join, owe, keep, assign, close, take, Met, Standing}
 use Rattle.esb_core.specs.Steps
-use Rattle.esb_core.specs.Steps.{moved, all_moved, fresh, joined, answered, ended_by, results, waiting_for, met, standing}
-use Rattle.esb_core.specs.History.{Begun, begun_at, builds_in, no_begun, context_at, contexts_in, active_at, active_in, waiting_in, closed_by, or_later, outcome_in, kept_pair, table_in, owes, owed_in, is_take, crowd, met_in, standing_in}
-use Rattle.esb_core.proofs.Moving.{contexts-push, active-push, builds-push, waits, waiting-push, or_later-None, outcome-push, gives, table-push, owed-push, count-push}
+use Rattle.esb_core.specs.Steps.{moved, all_moved, fresh, joined, answered, tasked, ended_by, results, waiting_for, met, standing, entry_tasks}
+use Rattle.esb_core.specs.Sizes.{with_task}
+use Rattle.esb_core.specs.History.{Begun, begun_at, builds_in, no_begun, context_at, contexts_in, active_at, active_in, waiting_in, closed_by, or_later, outcome_in, kept_pair, table_in, opens_in, tasks_in, owes, owed_in, is_take, crowd, met_in, standing_in}
+use Rattle.esb_core.proofs.Moving.{contexts-push, active-push, builds-push, waits, waiting-push, or_later-None, outcome-push, gives, table-push, gets, opens-push, owed-push, count-push}
+use Rattle.esb_core.proofs.Adding.{fold-none}
+use Rattle.esb_core.proofs.Each.{each-set, each-push}
 use Rattle.esb_core.proofs.Orders.{Fits, AllFit}
 
 abbrev pub begun_of : Building → Begun
 begun_of b = record { key = b.key; options = b.options }
+
+-- the tasks of a build are those of its entries, and these
+abbrev pub Lists : Building → List Task → Type 0
+Lists b more = b.tasks ≡ fold with_task (entry_tasks (length b.options.entries)) more
 
 -- the state has what the questions about the moves answer
 pub record Reads (s : State) (ms : List Move) : Type 0 where
@@ -29,6 +38,7 @@ pub record Reads (s : State) (ms : List Move) : Type 0 where
   pub waiting : (n : ℕ) → (build_at s.builds n).waiting ≡ waiting_in ms n
   pub outcomes : (n : ℕ) → (build_at s.builds n).outcome ≡ outcome_in ms n
   pub tables : (n : ℕ) → (build_at s.builds n).table ≡ table_in ms n
+  pub lists : (n : ℕ) → Lists (build_at s.builds n) (opens_in ms n)
   pub owed : s.owed ≡ drop (count_by is_take ms) (owed_in ms)
   pub enough : count_by is_take ms ≤ length (owed_in ms)
 
@@ -83,16 +93,18 @@ reads_with : (s t : State) (ms : List Move) (m : Move) → Reads s ms
     → ((n : ℕ) → (build_at t.builds n).waiting ≡ (build_at s.builds n).waiting ++ waits n m)
     → ((n : ℕ) → (build_at t.builds n).outcome ≡ or_later (build_at s.builds n).outcome (closed_by n m))
     → ((n : ℕ) → (build_at t.builds n).table ≡ fold kept_pair (build_at s.builds n).table (gives n m))
+    → ((n : ℕ) → Lists (build_at t.builds n) (opens_in ms n ++ gets n m))
     → t.owed ≡ drop (take_of m) (s.owed ++ owes ms m)
     → take_of m ≤ length s.owed
     → Reads t (ms ++ m ∷ [])
-reads_with s t ms m r contexts active begins waiting outcomes tables owed few = record {
+reads_with s t ms m r contexts active begins waiting outcomes tables lists owed few = record {
   contexts = contexts ∙ ap (λ (xs : List (ℕ × Options)). context_at xs m) r.contexts ∙ sym (contexts-push ms m);
   active = active ∙ ap (λ (xs : List (ℕ × ℕ)). active_at xs m) r.active ∙ sym (active-push ms m);
   begun = begins ∙ ap (λ bs. begun_at bs m) r.begun ∙ sym (builds-push ms m);
   waiting = λ n. waiting n ∙ ap (λ ids. ids ++ waits n m) (r.waiting n) ∙ sym (waiting-push ms m n);
   outcomes = λ n. outcomes n ∙ ap (λ o. or_later o (closed_by n m)) (r.outcomes n) ∙ sym (outcome-push ms m n);
   tables = λ n. tables n ∙ ap (λ q. fold kept_pair q (gives n m)) (r.tables n) ∙ sym (table-push ms m n);
+  lists = λ n. lists n ∙ ap (λ (ts : List Task). fold with_task (entry_tasks (length (build_at t.builds n).options.entries)) ts) (sym (opens-push ms m n));
   owed =
       let within : drop (count_by is_take ms) (owed_in ms ++ owes ms m) ≡ drop (count_by is_take ms) (owed_in ms) ++ owes ms m = drop-append-le (count_by is_take ms) (owed_in ms) (owes ms m) r.enough in
       owed ∙ ap (λ os. drop (take_of m) (os ++ owes ms m)) r.owed ∙ ap (λ os. drop (take_of m) os) (sym within) ∙ drop-drop (take_of m) (count_by is_take ms) (owed_in ms ++ owes ms m)
@@ -110,24 +122,36 @@ none_owed owed = sym (append-nil owed)
 no_ids : (ids : List ℕ) → ids ≡ ids ++ []
 no_ids ids = sym (append-nil ids)
 
+no-tasks : (b : Building) (ts : List Task) → Lists b ts → Lists b (ts ++ [])
+no-tasks b ts h = h ∙ ap (λ (us : List Task). fold with_task (entry_tasks (length b.options.entries)) us) (sym (append-nil ts))
+
 -- a move that leaves the builds
 quietly : (s t : State) (ms : List Move) (m : Move) → Reads s ms → t.builds ≡ s.builds → t.contexts ≡ context_at s.contexts m → t.active ≡ active_at s.active m
-    → begun_at (map begun_of s.builds) m ≡ map begun_of s.builds → ((n : ℕ) → waits n m ≡ []) → ((n : ℕ) → closed_by n m ≡ None) → ((n : ℕ) → gives n m ≡ [])
+    → begun_at (map begun_of s.builds) m ≡ map begun_of s.builds → ((n : ℕ) → waits n m ≡ []) → ((n : ℕ) → closed_by n m ≡ None) → ((n : ℕ) → gives n m ≡ []) → ((n : ℕ) → gets n m ≡ [])
     → t.owed ≡ drop (take_of m) (s.owed ++ owes ms m) → take_of m ≤ length s.owed → Reads t (ms ++ m ∷ [])
-quietly s t ms m r same contexts active begins waits_none closes_none gives_none owed few =
+quietly s t ms m r same contexts active begins waits_none closes_none gives_none gets_none owed few =
     reads_with s t ms m r contexts active (ap (λ (bs : List Building). map begun_of bs) same ∙ sym begins)
     (λ n. ap (λ (bs : List Building). (build_at bs n).waiting) same ∙ no_ids (build_at s.builds n).waiting ∙ ap (λ ids. (build_at s.builds n).waiting ++ ids) (sym (waits_none n)))
     (λ n. ap (λ (bs : List Building). (build_at bs n).outcome) same ∙ sym (ap (λ o. or_later (build_at s.builds n).outcome o) (closes_none n) ∙ or_later-None (build_at s.builds n).outcome))
     (λ n. ap (λ (bs : List Building). (build_at bs n).table) same ∙ ap (λ xs. fold kept_pair (build_at s.builds n).table xs) (sym (gives_none n)))
+    (λ n. subst (λ (bs : List Building). Lists (build_at bs n) (opens_in ms n ++ gets n m)) (sym same) (subst (λ (us : List Task). Lists (build_at s.builds n) (opens_in ms n ++ us)) (sym (gets_none n)) (no-tasks (build_at s.builds n) (opens_in ms n) (r.lists n))))
     owed few
 
+fresh-lists : (key : ℕ) (options : Options) (more : List Task) → Lists no_build more → Lists (fresh key options) more
+fresh-lists key options more none = ap (λ (us : List Task). fold with_task (entry_tasks (length options.entries)) us) (sym (fold-none more none))
+
 module _ (s : State) (ms : List Move) (r : Reads s ms) where
+  -- a build changes, and keeps its tasks
+  same-lists : (n : ℕ) (b : Building) → Lists b (opens_in ms n) → (m : ℕ) → Lists (build_at (slice_set s.builds n b) m) (opens_in ms m ++ [])
+  same-lists n b own m = no-tasks (build_at (slice_set s.builds n b) m) (opens_in ms m) (each-set (λ k c. Lists c (opens_in ms k)) s.builds n b r.lists own m)
+
   begins : (n key : ℕ) (options : Options) → Reads (moved s (begin n key options)) (ms ++ begin n key options ∷ [])
   begins n key options =
       reads_with s (moved s (begin n key options)) ms (begin n key options) r refl refl (map-append begun_of s.builds (fresh key options ∷ []))
       (λ m. at-push (λ b. b.waiting) s.builds (fresh key options) m refl ∙ no_ids (build_at s.builds m).waiting)
       (λ m. at-push (λ b. b.outcome) s.builds (fresh key options) m refl ∙ sym (or_later-None (build_at s.builds m).outcome))
       (λ m. at-push (λ b. b.table) s.builds (fresh key options) m refl)
+      (λ m. no-tasks (build_at (s.builds ++ fresh key options ∷ []) m) (opens_in ms m) (each-push (λ k b. Lists b (opens_in ms k)) s.builds (fresh key options) r.lists (λ k h. fresh-lists key options (opens_in ms k) h) m))
       (none_owed s.owed) (omega arith)
 
   joins : (n id : ℕ) → n < length s.builds → Reads (moved s (join n id)) (ms ++ join n id ∷ [])
@@ -136,6 +160,7 @@ module _ (s : State) (ms : List Move) (r : Reads s ms) where
       (λ m. at-other (λ b. b.waiting) (λ ids t. ids ++ cond t (id ∷ []) []) s.builds n (joined (build_at s.builds n) id) m lt refl (λ k. no_ids (build_at s.builds k).waiting))
       (λ m. at-same (λ b. b.outcome) s.builds n (joined (build_at s.builds n) id) m lt refl ∙ sym (or_later-None (build_at s.builds m).outcome))
       (λ m. at-same (λ b. b.table) s.builds n (joined (build_at s.builds n) id) m lt refl)
+      (same-lists n (joined (build_at s.builds n) id) (r.lists n))
       (none_owed s.owed) (omega arith)
 
   keeps : (n : ℕ) (q : Question) (a : Answer) → n < length s.builds → Reads (moved s (keep n q a)) (ms ++ keep n q a ∷ [])
@@ -144,7 +169,30 @@ module _ (s : State) (ms : List Move) (r : Reads s ms) where
       (λ m. at-same (λ b. b.waiting) s.builds n (answered (build_at s.builds n) q a) m lt refl ∙ no_ids (build_at s.builds m).waiting)
       (λ m. at-same (λ b. b.outcome) s.builds n (answered (build_at s.builds n) q a) m lt refl ∙ sym (or_later-None (build_at s.builds m).outcome))
       (λ m. at-other (λ b. b.table) (λ table t. fold kept_pair table (cond t ((q, a) ∷ []) [])) s.builds n (answered (build_at s.builds n) q a) m lt refl (λ k. refl))
+      (same-lists n (answered (build_at s.builds n) q a) (r.lists n))
       (none_owed s.owed) (omega arith)
+
+  assigns : (n : ℕ) (t : Task) → n < length s.builds → Reads (moved s (assign n t)) (ms ++ assign n t ∷ [])
+  assigns n t lt =
+      reads_with s (moved s (assign n t)) ms (assign n t) r refl refl (map-set_same begun_of s.builds n b no_build refl)
+      (λ m. at-same (λ c. c.waiting) s.builds n b m lt refl ∙ no_ids (build_at s.builds m).waiting)
+      (λ m. at-same (λ c. c.outcome) s.builds n b m lt refl ∙ sym (or_later-None (build_at s.builds m).outcome))
+      (λ m. at-same (λ c. c.table) s.builds n b m lt refl)
+      (λ m. subst (λ (c : Building). Lists c (opens_in ms m ++ cond (nat_eq n m) (t ∷ []) [])) (sym (at-set s.builds n b m lt)) (by m (nat_eq n m) refl))
+      (none_owed s.owed) (omega arith)
+    where
+      b : Building
+      b = tasked (build_at s.builds n) t
+
+      first : List Task
+      first = entry_tasks (length (build_at s.builds n).options.entries)
+
+      own : Lists b (opens_in ms n ++ t ∷ [])
+      own = ap (λ (ts : List Task). with_task ts t) (r.lists n) ∙ sym (fold-append with_task first (opens_in ms n) (t ∷ []))
+
+      by : (m : ℕ) (x : Bool) → nat_eq n m ≡ x → (let c : Building = cond x b (build_at s.builds m) in Lists c (opens_in ms m ++ cond x (t ∷ []) []))
+      by m true same = subst (λ (k : ℕ). Lists b (opens_in ms k ++ t ∷ [])) (eqb-true n m same) own
+      by m false apart = no-tasks (build_at s.builds m) (opens_in ms m) (r.lists m)
 
   closes : (key n : ℕ) (o : Outcome) → n < length s.builds → (build_at s.builds n).outcome ≡ None → Reads (moved s (close key n o)) (ms ++ close key n o ∷ [])
   closes key n o lt none =
@@ -153,19 +201,21 @@ module _ (s : State) (ms : List Move) (r : Reads s ms) where
       (λ m. at-other (λ b. b.outcome) (λ p t. or_later p (cond t (Some o) None)) s.builds n (ended_by (build_at s.builds n) o) m lt (ap (λ p. or_later p (Some o)) (sym none))
       (λ k. sym (or_later-None (build_at s.builds k).outcome)))
       (λ m. at-same (λ b. b.table) s.builds n (ended_by (build_at s.builds n) o) m lt refl)
+      (same-lists n (ended_by (build_at s.builds n) o) (r.lists n))
       (ap (λ ids. s.owed ++ results n ids) (r.waiting n)) (omega arith)
 
 pub moved-reads : (s : State) (ms : List Move) (m : Move) → Fits s m → Reads s ms → Reads (moved s m) (ms ++ m ∷ [])
 moved-reads s ms (make key options) f r =
-    quietly s (moved s (make key options)) ms (make key options) r refl refl refl refl (λ n. refl) (λ n. refl) (λ n. refl) (none_owed s.owed) (omega arith)
-moved-reads s ms (remove key) f r = quietly s (moved s (remove key)) ms (remove key) r refl refl refl refl (λ n. refl) (λ n. refl) (λ n. refl) (none_owed s.owed) (omega arith)
+    quietly s (moved s (make key options)) ms (make key options) r refl refl refl refl (λ n. refl) (λ n. refl) (λ n. refl) (λ n. refl) (none_owed s.owed) (omega arith)
+moved-reads s ms (remove key) f r = quietly s (moved s (remove key)) ms (remove key) r refl refl refl refl (λ n. refl) (λ n. refl) (λ n. refl) (λ n. refl) (none_owed s.owed) (omega arith)
 moved-reads s ms (begin n key options) f r = begins s ms r n key options
 moved-reads s ms (join n id) f r = joins s ms r n id f.begun
-moved-reads s ms (owe o) f r = quietly s (moved s (owe o)) ms (owe o) r refl refl refl refl (λ n. refl) (λ n. refl) (λ n. refl) refl (omega arith)
+moved-reads s ms (owe o) f r = quietly s (moved s (owe o)) ms (owe o) r refl refl refl refl (λ n. refl) (λ n. refl) (λ n. refl) (λ n. refl) refl (omega arith)
 moved-reads s ms (keep n q a) f r = keeps s ms r n q a f.begun
+moved-reads s ms (assign n t) f r = assigns s ms r n t f.begun
 moved-reads s ms (close key n o) f r = closes s ms r key n o f.begun f.unsettled
 moved-reads s ms take f r =
-    quietly s (moved s take) ms take r refl refl refl refl (λ n. refl) (λ n. refl) (λ n. refl) (ap (λ (os : List Out). drop 1 os) (sym (append-nil s.owed))) (omega (arith, f))
+    quietly s (moved s take) ms take r refl refl refl refl (λ n. refl) (λ n. refl) (λ n. refl) (λ n. refl) (ap (λ (os : List Out). drop 1 os) (sym (append-nil s.owed))) (omega (arith, f))
 
 pub all_moved-reads : (s : State) (ms more : List Move) → AllFit s more → Reads s ms → Reads (all_moved s more) (ms ++ more)
 all_moved-reads s ms [] fit r = subst (λ (ns : List Move). Reads s ns) (sym (append-nil ms)) r
@@ -177,14 +227,15 @@ all_moved-reads s ms (m ∷ more) fit r =
 
 -- a build changes in nothing that is asked about, and nor does what is owed
 pub changed-reads : (s : State) (ms : List Move) (n : ℕ) (b : Building) → n < length s.builds → begun_of b ≡ begun_of (build_at s.builds n) → b.waiting ≡ (build_at s.builds n).waiting
-    → b.outcome ≡ (build_at s.builds n).outcome → b.table ≡ (build_at s.builds n).table → Reads s ms → Reads (Steps.changed s n b) ms
-changed-reads s ms n b lt begun waiting outcome table r = record {
+    → b.outcome ≡ (build_at s.builds n).outcome → b.table ≡ (build_at s.builds n).table → b.tasks ≡ (build_at s.builds n).tasks → Reads s ms → Reads (Steps.changed s n b) ms
+changed-reads s ms n b lt begun waiting outcome table tasks r = record {
   contexts = r.contexts;
   active = r.active;
   begun = map-set_same begun_of s.builds n b no_build begun ∙ r.begun;
   waiting = λ m. at-same (λ c. c.waiting) s.builds n b m lt waiting ∙ r.waiting m;
   outcomes = λ m. at-same (λ c. c.outcome) s.builds n b m lt outcome ∙ r.outcomes m;
   tables = λ m. at-same (λ c. c.table) s.builds n b m lt table ∙ r.tables m;
+  lists = λ m. each-set (λ k c. Lists c (opens_in ms k)) s.builds n b r.lists (tasks ∙ r.lists n ∙ ap (λ (c : Begun). fold with_task (entry_tasks (length c.options.entries)) (opens_in ms n)) (sym begun)) m;
   owed = r.owed;
   enough = r.enough;
 }
@@ -220,7 +271,16 @@ met-read s ms key r =
         → ◌≡◌ {A = Met} (record { context = a; active = c; waiting = i; contexts = k; begun = m }) (record { context = b; active = d; waiting = j; contexts = l; begun = n })
     same p q r s t = rw (p, q, r, s, t) refl
 
+-- the tasks of a build are those of its moves
+pub tasks-read : (s : State) (ms : List Move) (n : ℕ) → Reads s ms → (build_at s.builds n).tasks ≡ tasks_in ms n
+tasks-read s ms n r = r.lists n ∙ ap (λ (b : Begun). fold with_task (entry_tasks (length b.options.entries)) (opens_in ms n)) (sym (build-read s ms n r))
+
 pub standing-read : (s : State) (ms : List Move) (n : ℕ) → Reads s ms → standing s n ≡ standing_in ms n
-standing-read s ms n r =
-    ap (λ o. record { key = (build_at s.builds n).key; stays = (build_at s.builds n).options.context; outcome = o }) (r.outcomes n)
-    ∙ ap (λ (b : Begun). record { key = b.key; stays = b.options.context; outcome = outcome_in ms n }) (sym (build-read s ms n r))
+standing-read s ms n r = same (ap (λ (b : Begun). b.key) its) (ap (λ (b : Begun). b.options.context) its) (r.tables n) (tasks-read s ms n r) (r.outcomes n)
+  where
+    its : begun_of (build_at s.builds n) ≡ slice_index_or (builds_in ms) n no_begun
+    its = sym (build-read s ms n r)
+
+    same : {k l : ℕ} {a b : Bool} {c d : List (Question × Answer)} {e f : List Task} {g h : Option Outcome} → k ≡ l → a ≡ b → c ≡ d → e ≡ f → g ≡ h
+        → ◌≡◌ {A = Standing} (record { key = k; stays = a; table = c; tasks = e; outcome = g }) (record { key = l; stays = b; table = d; tasks = f; outcome = h })
+    same p q r s t = rw (p, q, r, s, t) refl

@@ -9,6 +9,8 @@ use Rattle.esb_flags.specs.declared.command.Command.{Command}
 use Rattle.esb_flags.specs.declared.command.Command.TheVariants as command
 use Rattle.esb_flags.specs.Fields.{Answer as Asked}
 use Rattle.esb_flags.specs.Command.{asked}
+use Rattle.esb_ask.specs.declared.question.Question.{Question}
+use Rattle.esb_ask.specs.declared.answer.Answer.{Answer}
 use Rattle.esb_ask.specs.declared.outcome.Outcome.{Outcome}
 use Rattle.esb_ask.specs.declared.outcome.Outcome.TheVariants as outcome_of
 use Rattle.esb_core.specs.declared.out.Out.{Out}
@@ -16,15 +18,16 @@ use Rattle.esb_core.specs.declared.out.Out.TheVariants as out
 use Rattle.esb_core.specs.declared.out.Body.TheVariants as body
 use Rattle.esb_core.specs.declared.event.Event.{Event}
 use Rattle.esb_core.specs.declared.event.Event.TheVariants as event
-use Rattle.esb_core.specs.Moves.{Move, make, remove, key_of, options_of, first_of, unknown, passing, refusal, effect, requested, done, begun as begun_moves, joined_or_begun, canceled, kept_unless, closed_unless}
+use Rattle.esb_core.specs.Moves.{Move, make, remove, key_of, options_of, first_of, unknown, passing, refusal, effect, requested, done, begun as begun_moves, joined_or_begun, canceled, closed_unless}
+use Rattle.esb_core.specs.Sizes.{named, too_large}
 use Rattle.esb_core.specs.Steps.{results}
 use Rattle.esb_core.specs.History.{gathered_from, or_later, owes, outcome_in, standing_in, moves_after, moves_in, context, active_build, builds, waiting, outcome, all_owed, is_legal, replay}
-use Rattle.esb_core.specs.Laws.{Verdict, refused, accepted, verdict, if_same, joined_build, waits_by, waits, canceled_if, settled_by, settles, empty, results_for, owed_by, results_unless, owes_at, is_result, results_of, results_once, is_own, is_request, is_join}
+use Rattle.esb_core.specs.Laws.{Verdict, refused, accepted, verdict, if_same, joined_build, waits_by, waits, canceled_if, settled_by, settles, large_if, overfull, overopened, empty, results_for, owed_by, results_unless, results_if, owes_at, is_result, results_of, results_once, is_own, is_request, is_join}
 use Rattle.esb_core.proofs.Laws.{read-legal}
 use Rattle.esb_core.proofs.Legal.{each, each_legal}
 use Rattle.esb_core.proofs.Lookups.{not_none}
 use Rattle.esb_core.proofs.Moving.{moves-longer, gathered_from-append, moves-push, count-push}
-use Rattle.esb_core.proofs.Pushed.{found, by_verdict, by_stays, by_stays_then, Owes, owes-event, waiting-pushed, outcome-pushed, all_owed-pushed}
+use Rattle.esb_core.proofs.Pushed.{found, by_verdict, by_stays, by_stays_then, by_kept, by_opened, Owes, owes-event, waiting-pushed, outcome-pushed, all_owed-pushed}
 use Rattle.esb_core.proofs.Readings.{same-number}
 use Rattle.esb_core.proofs.Grown.{past-end}
 
@@ -122,30 +125,39 @@ module _ (n : ℕ) where
     by_request id (refused text) = calm (waiting es n) (outcome es n)
     by_request id (accepted c) = by_command id c
 
+    again : (m : ℕ) (o : Option Outcome) (t : Bool) (p : Outcome) → nat_eq m n ≡ t → outcome es m ≡ Some p → Owed [] [] (cond t o None)
+    again m o true p is some =
+        let mine : outcome es n ≡ Some p = ap (λ (k : ℕ). outcome es k) (sym (eqb-true m n is)) ∙ some in
+        calm (waiting es n) (outcome es n) ∙ ap (λ q. results_once n (waiting es n ++ []) (or_later q None)) mine ∙ sym (ap (λ q. results_once n (waiting es n ++ []) (or_later q o)) mine)
+    again m o false p is some = calm (waiting es n) (outcome es n)
+
+    settle : (m : ℕ) (o : Outcome) (p : Option Outcome) → outcome es m ≡ p → Owed (results_unless es m p) [] (cond (nat_eq m n) (Some o) None)
+    settle m o None is =
+        ap (λ (os : List Out). results_once n (waiting es n) (outcome es n) ++ filter (is_result n) os) (sym (append-nil (results m (waiting es m))))
+        ∙ closes-now m [] o (nat_eq m n) refl is refl
+    settle m o (Some p) is = again m (Some o) (nat_eq m n) p refl is
+
+    -- work that may end a build
+    work : (m : ℕ) (large : Bool) → Owed (results_if large es m) [] (cond (nat_eq m n) (large_if large) None)
+    work m true = settle m too_large (outcome es m) refl
+    work m false = by (nat_eq m n)
+      where
+        by : (t : Bool) → Owed [] [] (cond t None None)
+        by true = calm (waiting es n) (outcome es n)
+        by false = calm (waiting es n) (outcome es n)
+
     by_event : (e : Event) → Owed (owes_at es e) (waits es n e) (settles es n e)
     by_event (event.Arrive p) = by p.request
       where
         by : (t : Bool) → Owed (cond t (owed_by es p.id (verdict es p)) []) (cond t (waits_by es n p.id (verdict es p)) []) (cond t (settled_by es n (verdict es p)) None)
         by true = by_request p.id (verdict es p)
         by false = calm (waiting es n) (outcome es n)
-    by_event (event.Settle worker m o) = by (outcome es m) refl
-      where
-        again : (t : Bool) (p : Outcome) → nat_eq m n ≡ t → outcome es m ≡ Some p → Owed [] [] (cond t (Some o) None)
-        again true p is some =
-            let mine : outcome es n ≡ Some p = ap (λ (k : ℕ). outcome es k) (sym (eqb-true m n is)) ∙ some in
-            calm (waiting es n) (outcome es n) ∙ ap (λ q. results_once n (waiting es n ++ []) (or_later q None)) mine ∙ sym (ap (λ q. results_once n (waiting es n ++ []) (or_later q (Some o))) mine)
-        again false p is some = calm (waiting es n) (outcome es n)
-
-        by : (p : Option Outcome) → outcome es m ≡ p → Owed (results_unless es m p) [] (cond (nat_eq m n) (Some o) None)
-        by None is =
-            ap (λ (os : List Out). results_once n (waiting es n) (outcome es n) ++ filter (is_result n) os) (sym (append-nil (results m (waiting es m))))
-            ∙ closes-now m [] o (nat_eq m n) refl is refl
-        by (Some p) is = again (nat_eq m n) p refl is
+    by_event (event.Settle worker m o) = settle m o (outcome es m) refl
     by_event event.Pop = calm (waiting es n) (outcome es n)
     by_event event.EndOfInput = calm (waiting es n) (outcome es n)
     by_event (event.Claim role job) = calm (waiting es n) (outcome es n)
-    by_event (event.Record worker m q a) = calm (waiting es n) (outcome es n)
-    by_event (event.Deliver worker m t p) = calm (waiting es n) (outcome es n)
+    by_event (event.Record worker m q a) = work m (overfull es m q a)
+    by_event (event.Deliver worker m t p) = work m (overopened es m p)
 
   pub one-result : (events : List Event) → is_legal events ≡ true → results_of events n ≡ results_once n (waiting events n) (outcome events n)
   one-result events legal =
@@ -221,11 +233,9 @@ module _ (ids : ℕ → Bool) where
         by : (t : Bool) → Counts (cond t (requested (found es) p.id (asked p.value)) []) ≡ cond (t && ids p.id) 1 0
         by true = counts-request p.id (asked p.value)
         by false = refl
-    counts-event (event.Record worker m q a) = by (outcome_in (moves_in es) m)
-      where
-        by : (o : Option Outcome) → Counts (kept_unless m q a o) ≡ 0
-        by None = refl
-        by (Some o) = refl
+    counts-event (event.Record worker m q a) =
+        let own = own-behind m [] in
+        by_kept (λ ns. Counts ns ≡ 0) (standing_in (moves_in es) m) m q a (outcome_in (moves_in es) m) (omega (arith, own)) (omega (arith, own)) refl refl
     counts-event (event.Settle worker m o) = by (outcome_in (moves_in es) m)
       where
         by : (p : Option Outcome) → Counts (closed_unless (standing_in (moves_in es) m) m o p) ≡ 0
@@ -234,7 +244,9 @@ module _ (ids : ℕ → Bool) where
     counts-event event.Pop = refl
     counts-event event.EndOfInput = refl
     counts-event (event.Claim role job) = refl
-    counts-event (event.Deliver worker m t p) = refl
+    counts-event (event.Deliver worker m t p) =
+        let own = own-behind m [] in
+        by_opened (λ ns. Counts ns ≡ 0) (standing_in (moves_in es) m) m (named p) (outcome_in (moves_in es) m) (omega (arith, own)) (omega (arith, own)) (λ u. refl) refl
 
   pub accounted : (events : List Event) → count_by (is_request ids) events ≡ count_by (is_join ids) (moves_in events) + count_by (is_own ids) (all_owed events)
   accounted events = each (λ es. count_by (is_request ids) es ≡ count_by (is_join ids) (moves_in es) + count_by (is_own ids) (all_owed es)) refl step events

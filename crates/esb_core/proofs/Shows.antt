@@ -7,11 +7,11 @@ use Rattle.esb_core.specs.declared.event.Role.TheVariants as role
 use Rattle.esb_core.specs.declared.event.Event.{Event}
 use Rattle.esb_core.specs.declared.event.Event.TheVariants as event
 use Rattle.esb_core.specs.State.{State, start}
-use Rattle.esb_core.specs.Moves.{Move, make, remove, begin, join, owe, keep, close, take}
+use Rattle.esb_core.specs.Moves.{Move, make, remove, begin, join, owe, keep, assign, close, take}
 use Rattle.esb_core.specs.Steps.{moved, all_moved, moves, worked, after}
 use Rattle.esb_core.specs.History.{Begun, moves_in, replay_from, StandsFor}
 use Rattle.esb_core.specs.Laws.{ends_input, ShowsHistory}
-use Rattle.esb_core.proofs.Readings.{build-read, same-number}
+use Rattle.esb_core.proofs.Readings.{build-read, same-number, tasks-read}
 use Rattle.esb_core.proofs.Laws.{read-stands}
 
 -- ---- the end of the input
@@ -23,6 +23,7 @@ ended-moved s (begin n key options) = refl
 ended-moved s (join n id) = refl
 ended-moved s (owe o) = refl
 ended-moved s (keep n q a) = refl
+ended-moved s (assign n t) = refl
 ended-moved s (close key n o) = refl
 ended-moved s take = refl
 
@@ -64,6 +65,7 @@ shows state events h =
       options = λ n. sym (ap (λ (b : Begun). b.options) (at n));
       waiting = r.waiting;
       tables = r.tables;
+      tasks = λ n. tasks-read state (moves_in events) n r;
       outcomes = r.outcomes;
       ended = ap (λ (s : State). s.ended) h.replayed ∙ ended-from start events;
     }

@@ -4,15 +4,16 @@ use Rattle.std.specs.List.{list_any, list_all}
 use Rattle.esb_wire.specs.declared.value.Packet.{Packet}
 use Rattle.esb_ask.specs.declared.question.Question.{Question}
 use Rattle.esb_ask.specs.declared.answer.Answer.{Answer}
+use Rattle.esb_ask.specs.declared.task.Task.{Task}
 use Rattle.esb_ask.specs.declared.outcome.Outcome.{Outcome}
 use Rattle.esb_ask.specs.Table.{fits}
 use Rattle.esb_core.specs.declared.event.Event.{Event}
 use Rattle.esb_core.specs.declared.event.Event.TheVariants as event
 use Rattle.esb_core.specs.State.{Building, build_at}
-use Rattle.esb_core.specs.Steps.{told_record, told_pop, told_stale}
+use Rattle.esb_core.specs.Steps.{told_deliver, told_record, told_pop, told_stale}
 use Rattle.esb_core.specs.Allowed.{allowed, is_closing, is_settled, may_arrive}
-use Rattle.esb_core.specs.History.{builds, owed, table, is_legal, replay, next}
-use Rattle.esb_core.specs.Laws.{ends_input, tells, tells_record, IsOver, ShowsHistory}
+use Rattle.esb_core.specs.History.{builds, owed, table, tasks, is_legal, replay, next}
+use Rattle.esb_core.specs.Laws.{ends_input, tells, IsOver, ShowsHistory}
 use Rattle.esb_core.proofs.Claims.{both_parts}
 use Rattle.esb_core.proofs.Shows.{shows}
 
@@ -21,16 +22,13 @@ shown events legal = shows (replay events) events (record { legal = legal; repla
 
 -- ---- what is told
 
-tells-record : (b : Building) (t : List (Question × Answer)) (q : Question) (a : Answer) (o : Option Outcome) → b.table ≡ t → told_record b q a o ≡ tells_record t q a o
-tells-record b t q a None same = ap (λ (u : List (Question × Answer)). tells_record u q a None) same
-tells-record b t q a (Some o) same = refl
-
 pub told-by : (events : List Event) (e : Event) → is_legal events ≡ true → next events e ≡ tells events e
 told-by events (event.Record worker n q a) legal =
     let h = shown events legal in
-    let b : Building = build_at (replay events).builds n in
-    tells-record b (table events n) q a b.outcome (h.tables n) ∙ ap (λ o. tells_record (table events n) q a o) (h.outcomes n)
-told-by events (event.Deliver worker n t p) legal = let h = shown events legal in ap told_stale (h.outcomes n)
+    ap (λ (t : List (Question × Answer)). told_record t q a (build_at (replay events).builds n).outcome) (h.tables n) ∙ ap (λ o. told_record (table events n) q a o) (h.outcomes n)
+told-by events (event.Deliver worker n t p) legal =
+    let h = shown events legal in
+    ap (λ (ts : List Task). told_deliver ts p (build_at (replay events).builds n).outcome) (h.tasks n) ∙ ap (λ o. told_deliver (tasks events n) p o) (h.outcomes n)
 told-by events (event.Settle worker n o) legal = let h = shown events legal in ap told_stale (h.outcomes n)
 told-by events event.Pop legal = let h = shown events legal in ap (λ os. told_pop (slice_get os 0)) h.owes
 told-by events (event.Arrive packet) legal = refl

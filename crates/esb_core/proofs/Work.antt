@@ -19,8 +19,8 @@ use Rattle.esb_core.specs.declared.event.Claimed.TheVariants as claimed
 use Rattle.esb_core.specs.State.{Building, State, build_at}
 use Rattle.esb_core.specs.Steps.{is_claim}
 use Rattle.esb_core.specs.Allowed.{allowed, claimed_or, first_from, first_job, has_task, is_closing, is_linker, is_scanned, is_settled, job_by, job_of, job_told, job_unless, link_if, names_job, or_next}
-use Rattle.esb_core.specs.History.{is_legal, moves_in, outcome, replay}
-use Rattle.esb_core.specs.Work.{claims_link, claims_task, delivers, does_task, earliest_from, gives_link, gives_task, is_done, is_open, link_is_open, open_job, open_job_of, open_task, scan_or_link, settles_by, tasks, unless_settled}
+use Rattle.esb_core.specs.History.{is_legal, moves_in, outcome, replay, tasks}
+use Rattle.esb_core.specs.Work.{claims_link, claims_task, delivers, does_task, earliest_from, gives_link, gives_task, is_done, is_open, link_is_open, open_job, open_job_of, open_task, scan_or_link, settles_by, unless_settled}
 use Rattle.esb_core.proofs.Claims.{both_parts}
 use Rattle.esb_core.proofs.Held.{IsHeld, any-push, gives-claims, held, left-true, or-true}
 use Rattle.esb_core.proofs.Jobs.{no_job}

@@ -5,6 +5,7 @@ use Rattle.esb_wire.specs.declared.value.Packet.{Packet}
 use Rattle.esb_flags.specs.declared.options.Options.{Options}
 use Rattle.esb_ask.specs.declared.question.Question.{Question}
 use Rattle.esb_ask.specs.declared.answer.Answer.{Answer}
+use Rattle.esb_ask.specs.declared.task.Task.{Task}
 use Rattle.esb_ask.specs.declared.outcome.Outcome.{Outcome}
 use Rattle.esb_ask.specs.Table.{kept}
 use Rattle.esb_core.specs.declared.out.Out.{Out}
@@ -12,8 +13,9 @@ use Rattle.esb_core.specs.declared.event.Event.{Event}
 use Rattle.esb_core.specs.declared.event.Event.TheVariants as event
 use Rattle.esb_core.specs.declared.event.Told.{Told}
 use Rattle.esb_core.specs.State.{State, start, no_options}
-use Rattle.esb_core.specs.Moves.{Move, make, remove, begin, join, owe, keep, close, take, Met, Standing, moves_of}
-use Rattle.esb_core.specs.Steps.{after, told_of, without, results}
+use Rattle.esb_core.specs.Sizes.{with_task}
+use Rattle.esb_core.specs.Moves.{Move, make, remove, begin, join, owe, keep, assign, close, take, Met, Standing, moves_of}
+use Rattle.esb_core.specs.Steps.{after, told_of, without, results, entry_tasks}
 use Rattle.esb_core.specs.Allowed.{allowed}
 
 -- ---- legal lists
@@ -125,6 +127,19 @@ kept_pair table pair = kept table pair.0 pair.1
 abbrev pub table_in : List Move → ℕ → List (Question × Answer)
 table_in ms n = fold kept_pair [] (answers_in ms n)
 
+abbrev pub opens_with : ℕ → Move → List Task → List Task
+opens_with n (assign m t) rest = if nat_eq m n then t ∷ rest else rest
+opens_with n m rest = rest
+
+-- the tasks that the build got, in order
+abbrev pub opens_in : List Move → ℕ → List Task
+opens_in [] n = []
+opens_in (m ∷ ms) n = opens_with n m (opens_in ms n)
+
+-- the build's tasks: those of its entries, and then those that it got, each once
+abbrev pub tasks_in : List Move → ℕ → List Task
+tasks_in ms n = fold with_task (entry_tasks (length (slice_index_or (builds_in ms) n no_begun).options.entries)) (opens_in ms n)
+
 -- what a move owes: a reply, or once a build is closed the results for the requests that wait for it
 abbrev pub owes : List Move → Move → List Out
 owes before (owe o) = o ∷ []
@@ -161,6 +176,8 @@ abbrev pub standing_in : List Move → ℕ → Standing
 standing_in ms n = record {
   key = (slice_index_or (builds_in ms) n no_begun).key;
   stays = (slice_index_or (builds_in ms) n no_begun).options.context;
+  table = table_in ms n;
+  tasks = tasks_in ms n;
   outcome = outcome_in ms n;
 }
 
@@ -217,6 +234,10 @@ closed events n = is_some (outcome events n)
 -- the first answers to a build's questions
 abbrev pub table : List Event → ℕ → List (Question × Answer)
 table events n = table_in (moves_in events) n
+
+-- the tasks of a build in the order in which they were opened
+abbrev pub tasks : List Event → ℕ → List Task
+tasks events n = tasks_in (moves_in events) n
 
 -- all that was ever owed, in order
 abbrev pub all_owed : List Event → List Out

@@ -1,7 +1,11 @@
 -- What the machine's tables stand for, and what they keep.
 use Rattle.std.specs.Prelude.{◌≡◌, ℕ, ◌+◌, ◌<◌, ◌≤◌, true, sum_by, List, length, Option, None, Some}
+use Rattle.esb_ask.specs.declared.question.Question.{Question}
+use Rattle.esb_ask.specs.declared.answer.Answer.{Answer}
+use Rattle.esb_ask.specs.declared.task.Task.{Task}
 use Rattle.esb_ask.specs.declared.outcome.Outcome.{Outcome}
 use Rattle.esb_core.specs.State.{Building, State, build_at}
+use Rattle.esb_core.specs.Sizes.{bytes_in, files, most_answers, most_contents, most_files}
 use Rattle.esb_core.specs.Moves.{most_builds}
 use Rattle.esb_core.specs.Allowed.{is_settled}
 use Rattle.esb_core.specs.Order.{IsOrdered}
@@ -35,3 +39,11 @@ pub record IsKept (t : Tables) : Type 0 where
   pub passed : t.passed ≤ length t.builds.items
   pub over : (k : ℕ) → k < t.passed → is_settled (build_at t.builds.items k) ≡ true
   pub ordered : IsOrdered (state_of t)
+
+-- the bytes of the answers are counted, and both are within their limits
+abbrev pub AreCounted : List (Question × Answer) → ℕ → Type 0
+AreCounted table bytes = (bytes ≡ bytes_in table) × (length table ≤ most_answers) × (bytes_in table ≤ most_contents)
+
+-- the files that tasks load are counted, and within their limit
+abbrev pub AreFiles : List Task → ℕ → Type 0
+AreFiles tasks count = (count ≡ files tasks) × (files tasks ≤ most_files)

@@ -11,7 +11,8 @@ use Rattle.esb_ask.specs.declared.question.Question.{Question}
 use Rattle.esb_ask.specs.declared.answer.Answer.{Answer}
 use Rattle.esb_ask.specs.declared.outcome.Outcome.{Outcome}
 use Rattle.esb_ask.specs.declared.outcome.Outcome.TheVariants as outcome_of
-use Rattle.esb_ask.specs.Table.{same_question, kept_answer}
+use Rattle.esb_ask.specs.declared.product.Product.{Product}
+use Rattle.esb_ask.specs.Table.{same_question, kept}
 use Rattle.esb_core.specs.declared.out.Out.{Out}
 use Rattle.esb_core.specs.declared.out.Out.TheVariants as out
 use Rattle.esb_core.specs.declared.out.Body.TheVariants as body
@@ -20,9 +21,10 @@ use Rattle.esb_core.specs.declared.event.Event.TheVariants as event
 use Rattle.esb_core.specs.declared.event.Told.{Told}
 use Rattle.esb_core.specs.declared.event.Told.TheVariants as told
 use Rattle.esb_core.specs.State.{State, build_at}
+use Rattle.esb_core.specs.Sizes.{named, opened, files, bytes_in, most_answers, most_contents, most_files, is_overfull, has_too_many, too_large}
 use Rattle.esb_core.specs.Moves.{Move, join, key_of, options_of, refusal, most_builds, most_contexts, most_waiting}
-use Rattle.esb_core.specs.Steps.{results, without, told_pop, told_stale}
-use Rattle.esb_core.specs.History.{Begun, met_in, moves_in, contexts, context, active_build, builds, build, waiting, outcome, closed, table, all_owed, owed}
+use Rattle.esb_core.specs.Steps.{results, without, told_deliver, told_pop, told_record, told_stale}
+use Rattle.esb_core.specs.History.{Begun, met_in, moves_in, contexts, context, active_build, builds, build, waiting, outcome, closed, table, tasks, all_owed, owed}
 
 -- ---- requests
 
@@ -101,10 +103,23 @@ settled_by before n (accepted (command.Cancel key)) = canceled_if n (active_buil
 settled_by before n (accepted (command.Dispose key)) = canceled_if n (active_build before key)
 settled_by before n v = None
 
+abbrev pub large_if : Bool → Option Outcome
+large_if true = Some too_large
+large_if false = None
+
+-- how an answer, and how a product, ends a build that would be too large with it
+abbrev pub overfull : List Event → ℕ → Question → Answer → Bool
+overfull before n question answer = is_overfull (kept (table before n) question answer)
+
+abbrev pub overopened : List Event → ℕ → Product → Bool
+overopened before n p = has_too_many (opened (tasks before n) (named p))
+
 -- the outcome that an event gives to the build
 abbrev pub settles : List Event → ℕ → Event → Option Outcome
 settles before n (event.Arrive packet) = if packet.request then settled_by before n (verdict before packet) else None
 settles before n (event.Settle worker m o) = if nat_eq m n then Some o else None
+settles before n (event.Record worker m question answer) = if nat_eq m n then large_if (overfull before m question answer) else None
+settles before n (event.Deliver worker m t p) = if nat_eq m n then large_if (overopened before m p) else None
 settles before n e = None
 
 -- the earliest event that settles the build gives this outcome
@@ -133,13 +148,14 @@ pub record IsCanceledBy (events : List Event) (n : ℕ) : Type 0 where
 
 -- ---- answers
 
-abbrev pub answered_if : Option Outcome → Question → Answer → List (Question × Answer)
-answered_if None question answer = (question, answer) ∷ []
-answered_if (Some o) question answer = []
+abbrev pub answered_if : Option Outcome → Bool → Question → Answer → List (Question × Answer)
+answered_if None false question answer = (question, answer) ∷ []
+answered_if None true question answer = []
+answered_if (Some o) large question answer = []
 
--- the answer that an event gives to the build, unless it is settled
+-- the answer that an event gives to the build, unless it is settled or would be too large with it
 abbrev pub answers : List Event → ℕ → Event → List (Question × Answer)
-answers before n (event.Record worker m question answer) = if nat_eq m n then answered_if (outcome before m) question answer else []
+answers before n (event.Record worker m question answer) = if nat_eq m n then answered_if (outcome before m) (overfull before m question answer) question answer else []
 answers before n e = []
 
 -- whether an event has an answer to this question of the build
@@ -147,7 +163,7 @@ abbrev pub answers_it : ℕ → Question → Event → Bool
 answers_it n q (event.Record worker m question answer) = nat_eq m n && same_question q question
 answers_it n q e = false
 
--- the earliest event with an answer to this question of the build has this one, and came before the build was settled
+-- the earliest event with an answer to this question of the build has this one, came before the build was settled, and didn't make it too large
 pub record IsAnsweredBy (events : List Event) (n : ℕ) (q : Question) (a : Answer) : Type 0 where
   pub before : List Event
   pub worker : ℕ
@@ -155,6 +171,7 @@ pub record IsAnsweredBy (events : List Event) (n : ℕ) (q : Question) (a : Answ
   pub at : events ≡ before ++ event.Record worker n q a ∷ more
   pub earliest : list_any (answers_it n q) before ≡ false
   pub unsettled : outcome before n ≡ None
+  pub fits : overfull before n q a ≡ false
 
 -- whether a pair has the answer to this question
 abbrev pub is_about : Question → Question × Answer → Bool
@@ -185,10 +202,16 @@ abbrev pub results_unless : List Event → ℕ → Option Outcome → List Out
 results_unless before n None = results n (waiting before n)
 results_unless before n (Some o) = []
 
+abbrev pub results_if : Bool → List Event → ℕ → List Out
+results_if true before n = results_unless before n (outcome before n)
+results_if false before n = []
+
 -- what an event owes: a settled build the results for all that wait for it, in the order in which they came
 abbrev pub owes_at : List Event → Event → List Out
 owes_at before (event.Arrive packet) = if packet.request then owed_by before packet.id (verdict before packet) else []
 owes_at before (event.Settle worker n o) = results_unless before n (outcome before n)
+owes_at before (event.Record worker n question answer) = results_if (overfull before n question answer) before n
+owes_at before (event.Deliver worker n t p) = results_if (overopened before n p) before n
 owes_at before e = []
 
 -- whether it is the result of the build
@@ -240,10 +263,16 @@ abbrev pub gone_unless : Begun → Option Outcome → List (ℕ × Options) → 
 gone_unless b None contexts = if b.options.context then contexts else without b.key contexts
 gone_unless b (Some o) contexts = contexts
 
+abbrev pub gone_large : Bool → Begun → Option Outcome → List (ℕ × Options) → List (ℕ × Options)
+gone_large true b o contexts = gone_unless b o contexts
+gone_large false b o contexts = contexts
+
 -- the contexts once an event came: a request makes one or removes one, and a build that is settled takes the one that only it had
 abbrev pub contexts_at : List Event → Event → List (ℕ × Options)
 contexts_at before (event.Arrive packet) = if packet.request then contexts_by before (verdict before packet) else contexts before
 contexts_at before (event.Settle worker n o) = gone_unless (build before n) (outcome before n) (contexts before)
+contexts_at before (event.Record worker n question answer) = gone_large (overfull before n question answer) (build before n) (outcome before n) (contexts before)
+contexts_at before (event.Deliver worker n t p) = gone_large (overopened before n p) (build before n) (outcome before n) (contexts before)
 contexts_at before e = contexts before
 
 -- the build is the one of the context with this key that isn't settled
@@ -257,6 +286,9 @@ pub record IsWithinLimits (events : List Event) : Type 0 where
   pub few_contexts : length (contexts events) ≤ most_contexts
   pub few_builds : length (builds events) ≤ most_builds
   pub few_waiting : (n : ℕ) → length (waiting events n) ≤ most_waiting
+  pub few_answers : (n : ℕ) → length (table events n) ≤ most_answers
+  pub few_contents : (n : ℕ) → bytes_in (table events n) ≤ most_contents
+  pub few_files : (n : ℕ) → files (tasks events n) ≤ most_files
 
 -- ---- what a machine shows
 
@@ -273,18 +305,14 @@ pub record ShowsHistory (state : State) (events : List Event) : Type 0 where
   pub options : (n : ℕ) → (build_at state.builds n).options ≡ (build events n).options
   pub waiting : (n : ℕ) → (build_at state.builds n).waiting ≡ waiting events n
   pub tables : (n : ℕ) → (build_at state.builds n).table ≡ table events n
+  pub tasks : (n : ℕ) → (build_at state.builds n).tasks ≡ tasks events n
   pub outcomes : (n : ℕ) → (build_at state.builds n).outcome ≡ outcome events n
   pub ended : state.ended ≡ list_any ends_input events
 
--- what the machine tells of an answer: the one that is kept to its question, unless the build is settled
-abbrev pub tells_record : List (Question × Answer) → Question → Answer → Option Outcome → Told
-tells_record table question answer None = told.Kept (kept_answer table question answer)
-tells_record table question answer (Some o) = told.Stale
-
 -- what the machine tells of an event that comes after these
 abbrev pub tells : List Event → Event → Told
-tells before (event.Record worker n question answer) = tells_record (table before n) question answer (outcome before n)
-tells before (event.Deliver worker n t p) = told_stale (outcome before n)
+tells before (event.Record worker n question answer) = told_record (table before n) question answer (outcome before n)
+tells before (event.Deliver worker n t p) = told_deliver (tasks before n) p (outcome before n)
 tells before (event.Settle worker n o) = told_stale (outcome before n)
 tells before event.Pop = told_pop (slice_get (owed before) 0)
 tells before e = told.Done

@@ -1,4 +1,5 @@
 pub mod State
+pub mod Sizes
 pub mod Moves
 pub mod Steps
 pub mod Order

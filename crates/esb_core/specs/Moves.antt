@@ -1,5 +1,5 @@
 -- The kinds of move, and which moves an event comes to.
-use Rattle.std.specs.Prelude.{ℕ, Bool, true, not, ◌&&◌, if◌then◌else◌, nat_le, List, [], ◌∷◌, ◌++◌, codes, Option, None, Some, is_none, is_some, Ok, Err}
+use Rattle.std.specs.Prelude.{ℕ, Bool, true, false, not, ◌&&◌, if◌then◌else◌, nat_le, List, [], ◌∷◌, ◌++◌, codes, Option, None, Some, is_none, is_some, Ok, Err}
 use Rattle.esb_flags.specs.declared.options.Options.{Options}
 use Rattle.esb_flags.specs.declared.command.Command.{Command}
 use Rattle.esb_flags.specs.declared.command.Command.TheVariants as command
@@ -7,6 +7,7 @@ use Rattle.esb_flags.specs.Fields.{Answer as Asked}
 use Rattle.esb_flags.specs.Command.{asked}
 use Rattle.esb_ask.specs.declared.question.Question.{Question}
 use Rattle.esb_ask.specs.declared.answer.Answer.{Answer}
+use Rattle.esb_ask.specs.declared.task.Task.{Task}
 use Rattle.esb_ask.specs.declared.outcome.Outcome.{Outcome}
 use Rattle.esb_ask.specs.declared.outcome.Outcome.TheVariants as outcome
 use Rattle.esb_core.specs.declared.out.Out.{Out}
@@ -14,7 +15,9 @@ use Rattle.esb_core.specs.declared.out.Out.TheVariants as out
 use Rattle.esb_core.specs.declared.out.Body.TheVariants as body
 use Rattle.esb_core.specs.declared.event.Event.{Event}
 use Rattle.esb_core.specs.declared.event.Event.TheVariants as event
+use Rattle.esb_ask.specs.Table.{kept}
 use Rattle.esb_core.specs.State.{no_options}
+use Rattle.esb_core.specs.Sizes.{named, opened, is_overfull, has_too_many, too_large}
 
 -- the most builds of a session
 abbrev pub most_builds : ℕ
@@ -44,6 +47,8 @@ pub data Move : Type 0 where
   owe : Out → Move
   -- the build gets an answer
   keep : ℕ → Question → Answer → Move
+  -- the build gets a task
+  assign : ℕ → Task → Move
   -- the build, of the context with this key, is settled and closed
   close : ℕ → ℕ → Outcome → Move
   -- the first that is owed is taken off
@@ -162,12 +167,30 @@ pub record Standing : Type 0 where
   pub key : ℕ
   -- whether its context stays once it is settled
   pub stays : Bool
+  -- the first answers to its questions
+  pub table : List (Question × Answer)
+  -- its tasks, in the order in which they were opened
+  pub tasks : List Task
   pub outcome : Option Outcome
 
+-- what work adds to a build, or the end of the build where that would make it too large
+abbrev pub added_or : Standing → ℕ → Bool → List Move → List Move
+added_or at n true adds = closed at.key at.stays n too_large
+added_or at n false adds = adds
+
 -- an answer, unless the build is settled
-abbrev pub kept_unless : ℕ → Question → Answer → Option Outcome → List Move
-kept_unless n question answer None = keep n question answer ∷ []
-kept_unless n question answer (Some o) = []
+abbrev pub kept_unless : Standing → ℕ → Question → Answer → Option Outcome → List Move
+kept_unless at n question answer None = added_or at n (is_overfull (kept at.table question answer)) (keep n question answer ∷ [])
+kept_unless at n question answer (Some o) = []
+
+abbrev pub opens : ℕ → Option Task → List Move
+opens n None = []
+opens n (Some t) = assign n t ∷ []
+
+-- the task that a product names, unless the build is settled
+abbrev pub opened_unless : Standing → ℕ → Option Task → Option Outcome → List Move
+opened_unless at n t None = added_or at n (has_too_many (opened at.tasks t)) (opens n t)
+opened_unless at n t (Some o) = []
 
 -- the first outcome of a build
 abbrev pub closed_unless : Standing → ℕ → Outcome → Option Outcome → List Move
@@ -177,9 +200,9 @@ closed_unless at n o (Some first) = []
 -- the moves that an event comes to, by what it finds. A response answers nothing that is open.
 abbrev pub moves_of : (ℕ → Met) → (ℕ → Standing) → Event → List Move
 moves_of met at (event.Arrive packet) = if packet.request then requested met packet.id (asked packet.value) else []
-moves_of met at (event.Record worker n question answer) = kept_unless n question answer (at n).outcome
+moves_of met at (event.Record worker n question answer) = kept_unless (at n) n question answer (at n).outcome
 moves_of met at (event.Settle worker n o) = closed_unless (at n) n o (at n).outcome
 moves_of met at event.Pop = take ∷ []
 moves_of met at event.EndOfInput = []
 moves_of met at (event.Claim role job) = []
-moves_of met at (event.Deliver worker n t p) = []
+moves_of met at (event.Deliver worker n t p) = opened_unless (at n) n (named p) (at n).outcome

@@ -1,16 +1,12 @@
 -- One step of the machine: an equation for each kind of move, and for the work of each event.
-use Rattle.std.specs.Prelude.{ℕ, zero, suc, ◌+◌, Bool, true, not, ◌&&◌, if◌then◌else◌, nat_eq, List, [], ◌∷◌, ◌++◌, length, map, filter, drop, slice_set, slice_get, Option, None, Some}
+use Rattle.std.specs.Prelude.{ℕ, zero, suc, ◌+◌, Bool, true, false, not, ◌&&◌, if◌then◌else◌, nat_eq, List, [], ◌∷◌, ◌++◌, length, map, filter, drop, slice_set, slice_get, Option, None, Some}
 use Rattle.std.specs.Map.{lookup}
-use Rattle.std.specs.List.{list_any}
 use Rattle.esb_flags.specs.declared.options.Options.{Options}
 use Rattle.esb_ask.specs.declared.question.Question.{Question}
 use Rattle.esb_ask.specs.declared.answer.Answer.{Answer}
 use Rattle.esb_ask.specs.declared.task.Task.{Task}
 use Rattle.esb_ask.specs.declared.task.Task.TheVariants as task
 use Rattle.esb_ask.specs.declared.product.Product.{Product}
-use Rattle.esb_ask.specs.declared.product.Product.TheVariants as product
-use Rattle.esb_ask.specs.declared.product.Resolved.{Resolved}
-use Rattle.esb_ask.specs.declared.product.Resolved.TheVariants as resolved
 use Rattle.esb_ask.specs.declared.outcome.Outcome.{Outcome}
 use Rattle.esb_ask.specs.Table.{kept, kept_answer}
 use Rattle.esb_ask.specs.Tasks.{same_task}
@@ -26,7 +22,8 @@ use Rattle.esb_core.specs.declared.event.Event.TheVariants as event
 use Rattle.esb_core.specs.declared.event.Told.{Told}
 use Rattle.esb_core.specs.declared.event.Told.TheVariants as told
 use Rattle.esb_core.specs.State.{Building, State, build_at}
-use Rattle.esb_core.specs.Moves.{Move, make, remove, begin, join, owe, keep, close, take, Met, Standing, moves_of}
+use Rattle.esb_core.specs.Sizes.{named, opened, with_task, is_overfull, has_too_many}
+use Rattle.esb_core.specs.Moves.{Move, make, remove, begin, join, owe, keep, assign, close, take, Met, Standing, moves_of}
 
 -- ---- moves
 
@@ -59,6 +56,10 @@ joined b id = record b { waiting = b.waiting ++ id ∷ [] }
 abbrev pub answered : Building → Question → Answer → Building
 answered b question answer = record b { table = kept b.table question answer }
 
+-- one more task, where it is new
+abbrev pub tasked : Building → Task → Building
+tasked b t = record b { tasks = with_task b.tasks t }
+
 abbrev pub ended_by : Building → Outcome → Building
 ended_by b o = record b { outcome = Some o }
 
@@ -78,6 +79,7 @@ moved s (begin n key options) = record s { builds = s.builds ++ fresh key option
 moved s (join n id) = record s { builds = slice_set s.builds n (joined (build_at s.builds n) id) }
 moved s (owe o) = record s { owed = s.owed ++ o ∷ [] }
 moved s (keep n question answer) = record s { builds = slice_set s.builds n (answered (build_at s.builds n) question answer) }
+moved s (assign n t) = record s { builds = slice_set s.builds n (tasked (build_at s.builds n) t) }
 moved s (close key n o) = record s {
   builds = slice_set s.builds n (ended_by (build_at s.builds n) o);
   active = without key s.active;
@@ -109,7 +111,7 @@ met s key = record {
 }
 
 abbrev pub standing_of : Building → Standing
-standing_of b = record { key = b.key; stays = b.options.context; outcome = b.outcome }
+standing_of b = record { key = b.key; stays = b.options.context; table = b.table; tasks = b.tasks; outcome = b.outcome }
 
 abbrev pub standing : State → ℕ → Standing
 standing s n = standing_of (build_at s.builds n)
@@ -133,22 +135,6 @@ after_claim s (role.Worker worker) (job.Scan n t) = changed s n (task_claimed (b
 after_claim s (role.Worker worker) (job.Link n) = changed s n (link_claimed (build_at s.builds n) worker)
 after_claim s (role.Door door) j = s
 
--- the task that a product names
-abbrev pub named_by : Resolved → Option Task
-named_by (resolved.To name marked) = Some (task.Load name)
-named_by resolved.External = None
-named_by resolved.Left = None
-named_by (resolved.Refused message) = None
-
-abbrev pub named : Product → Option Task
-named (product.Entry r) = named_by r
-named (product.Load l) = None
-
--- a task is opened if it is new
-abbrev pub opened : List Task → Option Task → List Task
-opened tasks None = tasks
-opened tasks (Some t) = if list_any (same_task t) tasks then tasks else tasks ++ t ∷ []
-
 -- whether a claim is this one
 abbrev pub is_claim : ℕ → Task → ℕ × Task → Bool
 is_claim worker t claim = nat_eq claim.0 worker && same_task claim.1 t
@@ -156,11 +142,6 @@ is_claim worker t claim = nat_eq claim.0 worker && same_task claim.1 t
 -- the claim of a task ends
 abbrev pub unclaimed : Building → ℕ → Task → Building
 unclaimed b worker t = record b { claims = filter (λ claim. not (is_claim worker t claim)) b.claims }
-
--- the build once a task was done: what it names is opened, but for a settled build
-abbrev pub delivered : Building → ℕ → Task → Product → Option Outcome → Building
-delivered b worker t p None = record (unclaimed b worker t) { tasks = opened b.tasks (named p) }
-delivered b worker t p (Some outcome) = unclaimed b worker t
 
 abbrev pub freed : ℕ → Option ℕ → Option ℕ
 freed worker None = None
@@ -173,7 +154,7 @@ released b worker = record b { claims = filter (λ claim. not (nat_eq claim.0 wo
 -- the state once the work of an event is taken note of
 abbrev pub worked : State → Event → State
 worked s (event.Claim r j) = after_claim s r j
-worked s (event.Deliver worker n t p) = changed s n (delivered (build_at s.builds n) worker t p (build_at s.builds n).outcome)
+worked s (event.Deliver worker n t p) = changed s n (unclaimed (build_at s.builds n) worker t)
 worked s (event.Settle worker n o) = changed s n (released (build_at s.builds n) worker)
 worked s event.EndOfInput = record s { ended = true }
 worked s (event.Arrive packet) = s
@@ -186,9 +167,22 @@ worked s event.Pop = s
 abbrev pub after : State → Event → State
 after s e = worked (all_moved s (moves s e)) e
 
-abbrev pub told_record : Building → Question → Answer → Option Outcome → Told
-told_record b question answer None = told.Kept (kept_answer b.table question answer)
-told_record b question answer (Some outcome) = told.Stale
+-- what the machine tells of an answer: the one that is kept to its question, unless the build is settled
+abbrev pub told_kept : Answer → Bool → Told
+told_kept first true = told.Stale
+told_kept first false = told.Kept first
+
+abbrev pub told_record : List (Question × Answer) → Question → Answer → Option Outcome → Told
+told_record table question answer None = told_kept (kept_answer table question answer) (is_overfull (kept table question answer))
+told_record table question answer (Some outcome) = told.Stale
+
+abbrev pub told_if : Bool → Told
+told_if true = told.Stale
+told_if false = told.Done
+
+abbrev pub told_deliver : List Task → Product → Option Outcome → Told
+told_deliver tasks p None = told_if (has_too_many (opened tasks (named p)))
+told_deliver tasks p (Some outcome) = told.Stale
 
 abbrev pub told_stale : Option Outcome → Told
 told_stale None = told.Done
@@ -203,7 +197,7 @@ abbrev pub told_of : State → Event → Told
 told_of s (event.Arrive packet) = told.Done
 told_of s event.EndOfInput = told.Done
 told_of s (event.Claim r j) = told.Done
-told_of s (event.Record worker n question answer) = told_record (build_at s.builds n) question answer (build_at s.builds n).outcome
-told_of s (event.Deliver worker n t p) = told_stale (build_at s.builds n).outcome
+told_of s (event.Record worker n question answer) = told_record (build_at s.builds n).table question answer (build_at s.builds n).outcome
+told_of s (event.Deliver worker n t p) = told_deliver (build_at s.builds n).tasks p (build_at s.builds n).outcome
 told_of s (event.Settle worker n outcome) = told_stale (build_at s.builds n).outcome
 told_of s event.Pop = told_pop (slice_get s.owed 0)

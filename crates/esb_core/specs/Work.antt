@@ -11,9 +11,9 @@ use Rattle.esb_core.specs.declared.event.Job.{Job}
 use Rattle.esb_core.specs.declared.event.Job.TheVariants as job
 use Rattle.esb_core.specs.declared.event.Event.{Event}
 use Rattle.esb_core.specs.declared.event.Event.TheVariants as event
-use Rattle.esb_core.specs.Steps.{entry_tasks, named}
+use Rattle.esb_core.specs.Sizes.{named, opened, has_too_many}
 use Rattle.esb_core.specs.Allowed.{link_if, or_next}
-use Rattle.esb_core.specs.History.{builds, build, outcome, gathered}
+use Rattle.esb_core.specs.History.{builds, outcome, tasks}
 
 -- ---- claims
 
@@ -72,18 +72,14 @@ abbrev pub unless_settled : {X : Type 0} → Option Outcome → Option X → Opt
 unless_settled None x = x
 unless_settled (Some o) x = None
 
--- the task that an event names for the build, after others: a delivered product may name one, unless the build is settled
+abbrev pub unless_large : {X : Type 0} → Bool → Option X → Option X
+unless_large true x = None
+unless_large false x = x
+
+-- the task that an event names for the build, after others: a delivered product may name one, unless the build is settled or would open too many files
 abbrev pub names : ℕ → List Event → Event → List Task
-names n before (event.Deliver worker m t p) = if nat_eq m n then option_to_list (unless_settled (outcome before n) (named p)) else []
+names n before (event.Deliver worker m t p) = if nat_eq m n then option_to_list (unless_settled (outcome before m) (unless_large (has_too_many (opened (tasks before m) (named p))) (named p))) else []
 names n before e = []
-
--- a task is added at the end where it is new
-abbrev pub with_task : List Task → Task → List Task
-with_task tasks t = if list_any (same_task t) tasks then tasks else tasks ++ t ∷ []
-
--- the tasks of the build in the order in which they were opened: those of its entries, then those that its products named
-abbrev pub tasks : List Event → ℕ → List Task
-tasks events n = fold with_task (entry_tasks (length (build events n).options.entries)) (gathered (names n) events)
 
 -- no event gave the task to a worker
 abbrev pub is_open : List Event → ℕ → Task → Bool

@@ -22,11 +22,13 @@ ghost use Rattle.esb_core.specs.declared.event.Claimed.TheVariants as claimed;
 ghost use Rattle.esb_core.specs.declared.event.Job.{Job};
 ghost use Rattle.esb_core.specs.declared.event.Role.{Role};
 ghost use Rattle.esb_core.specs.Allowed.{allowed, is_closing, job_told, may_arrive, names_job};
-ghost use Rattle.esb_core.specs.History.{active_build, all_owed, build, builds, context, contexts, is_legal, kept_pair, moves_in, next, or_later, outcome, owed, replay, StandsFor, table, takes, waiting};
+ghost use Rattle.esb_core.specs.History.{active_build, all_owed, build, builds, context, contexts, is_legal, kept_pair, moves_in, next, or_later, outcome, owed, replay, gathered, StandsFor, table, takes, tasks, waiting};
 ghost use Rattle.esb_core.specs.Laws.{accepted, answers, begins, contexts_at, ends_input, is_about, is_join, is_own, is_request, owes_at, refused, results_of, results_once, settles, tells, verdict, verdict_by, waits, IsActiveBuild, IsAnsweredBy, IsBegunBy, IsCanceledBy, IsOver, IsSettledBy, IsWithinLimits, ShowsHistory};
 ghost use Rattle.esb_core.specs.Moves.{key_of, refusal};
+ghost use Rattle.esb_core.specs.Sizes.{with_task};
 ghost use Rattle.esb_core.specs.State.{State};
-ghost use Rattle.esb_core.specs.Work.{claims_link, claims_task, holds_link, holds_task, open_job, tasks, HoldsTask};
+ghost use Rattle.esb_core.specs.Steps.{entry_tasks};
+ghost use Rattle.esb_core.specs.Work.{claims_link, claims_task, holds_link, holds_task, names, open_job, HoldsTask};
 
 /// A build that has begun keeps its number, its key and its options, and each was begun by an event: a `build` request whose
 /// context doesn't stay, or a `rebuild` of a context without an active build.
@@ -50,7 +52,8 @@ pub fn contexts_are_known()
 {}
 
 /// A build's outcome is what the earliest event that settles it gives, and stays: a worker's, or a `cancel` or `dispose` of its
-/// context, which comes after its begin. Only a build that has begun has one.
+/// context, which comes after its begin, or the one message `Build is too large` where an answer or a task would make it larger
+/// than a build may be. Only a build that has begun has one.
 pub fn outcomes_stay()
     ensures one_more { (before : List Event) (event : Event) (n : ℕ) → outcome (before ++ event ∷ []) n ≡ or_later (outcome before n) (settles before n event) }
     ensures stay { (events more : List Event) (n : ℕ) (o : Outcome) → outcome events n ≡ Some o → outcome (events ++ more) n ≡ Some o }
@@ -64,8 +67,8 @@ pub fn settled_tables_stay()
     ensures { (events more : List Event) (n : ℕ) (o : Outcome) → outcome events n ≡ Some o → table (events ++ more) n ≡ table events n }
 {}
 
-/// The answer that is kept to a question is the earliest that came before the build was settled, and stays. A table grows at its
-/// end, and has each question once.
+/// The answer that is kept to a question is the earliest that came before the build was settled, and stays. One that would make
+/// the build too large isn't kept. A table grows at its end, and has each question once.
 pub fn answers_stay()
     ensures one_more { (before : List Event) (event : Event) (n : ℕ) → table (before ++ event ∷ []) n ≡ fold kept_pair (table before n) (answers before n event) }
     ensures stay { (events more : List Event) (n : ℕ) (question : Question) (answer : Answer)
@@ -89,7 +92,8 @@ pub fn replies_are_one()
     ensures taken { (events : List Event) → is_legal events ≡ true → takes events ≤ length (all_owed events) }
 {}
 
-/// A session has no more contexts, builds and waiting requests than its limits.
+/// A session has no more contexts, builds and waiting requests than its limits, and a build no more answers, bytes of files and
+/// files.
 pub fn limits_hold()
     ensures { (events : List Event) → is_legal events ≡ true → IsWithinLimits events }
 {}
@@ -129,13 +133,14 @@ pub fn events_that_may_come()
 {}
 
 /// What a machine tells a role of its next work: its first open job, or that it is over, or else that no job is open. A build has
-/// each of its tasks once, and they keep their order.
+/// each of its tasks once, and they keep their order: those of its entries, and then those that delivered products named.
 pub fn jobs_are_in_order()
     ensures job { (events : List Event) (role : Role) (job : Job) → is_legal events ≡ true
         → (job_told (replay events) role ≡ claimed.Job job) ↔ (open_job events role ≡ Some job) }
     ensures closing { (events : List Event) (role : Role) → is_legal events ≡ true → (job_told (replay events) role ≡ claimed.Closing) ↔ IsOver events }
     ensures idle { (events : List Event) (role : Role) → is_legal events ≡ true
         → (job_told (replay events) role ≡ claimed.Idle) ↔ ((open_job events role ≡ None) × (IsOver events → ⊥)) }
+    ensures named { (events : List Event) (n : ℕ) → tasks events n ≡ fold with_task (entry_tasks (length (build events n).options.entries)) (gathered (names n) events) }
     ensures differ { (events : List Event) (n : ℕ) (task : Task) → is_legal events ≡ true → count_by (same_task task) (tasks events n) ≤ 1 }
     ensures grow { (events more : List Event) (n : ℕ) → n < length (builds events) → take (length (tasks events n)) (tasks (events ++ more) n) ≡ tasks events n }
 {}

@@ -1,17 +1,19 @@
 //! One build.
-ghost use Rattle.std.specs.Prelude.{◌≡◌, ℕ, ◌+◌, ◌<◌, ◌≤◌, ◌^◌, ◌++◌, ◌∷◌, [], length, not, filter, nat_eq, vec_len, true, None, Some, IfOk, OnOk, OnErr};
+ghost use Rattle.std.specs.Prelude.{◌≡◌, ℕ, ◌+◌, ◌<◌, ◌≤◌, ◌^◌, ◌++◌, ◌∷◌, [], length, not, filter, nat_eq, vec_len, true, false, None, Some, IfOk, OnOk, OnErr};
 ghost use Rattle.std.specs.List.{list_any};
 ghost use Rattle.std.specs.Option.{is_some, option_copied};
 ghost use Rattle.std.specs.Vec.{vec_capacity};
-ghost use Rattle.esb_ask.specs.Table.{fits};
-ghost use Rattle.esb_ask.specs.Tasks.{same_task};
+ghost use Rattle.esb_ask.specs.Table.{fits, kept};
 ghost use Rattle.esb_core.specs.Allowed.{has_claim, has_task, is_linker, is_scanned, is_settled, job_of, may_settle, names_job};
 ghost use Rattle.esb_core.specs.Kept.{StaysBy};
-ghost use Rattle.esb_core.specs.Steps.{answered, delivered, ended_by, entry_tasks, fresh, freed, is_claim, joined, link_claimed, named, named_by, opened, released, standing_of, task_claimed, told_record, told_stale, unclaimed};
+ghost use Rattle.esb_core.specs.Sizes.{has_too_many, is_overfull, opened};
+ghost use Rattle.esb_core.specs.Steps.{answered, ended_by, fresh, freed, is_claim, joined, link_claimed, released, task_claimed, tasked, told_record, unclaimed};
 
+use crate::answers::Answers;
 use crate::event::{Job, Told};
+use crate::opened::Opened;
 use crate::view::View;
-use esb_ask::{Answer, Outcome, Product, Question, Resolved, Table, Task};
+use esb_ask::{Answer, Outcome, Question, Table, Task};
 use esb_base::{Memory, Shared};
 use esb_flags::Options;
 use std::alloc::Global;
@@ -23,8 +25,8 @@ pub(crate) struct Build {
     key: u32,
     options: Shared<Options>,
     waiting: Vec<u32>,
-    table: Table,
-    tasks: Vec<Task>,
+    answers: Answers,
+    tasks: Opened,
     claimed: usize,
     claims: Vec<(u32, Task)>,
     linker: Option<u32>,
@@ -32,7 +34,7 @@ pub(crate) struct Build {
 }
 
 impl Model for Build {
-    ghost use Rattle.std.specs.Prelude.{◌≤◌, vec_len, vec_capacity};
+    ghost use Rattle.std.specs.Prelude.{◌≤◌, length, vec_len, vec_capacity};
     ghost use Rattle.esb_core.specs.State.{Building};
 
     ghost Value = { Building };
@@ -41,8 +43,8 @@ impl Model for Build {
       key = b.key;
       options = b.options;
       waiting = b.waiting.items;
-      table = b.table;
-      tasks = b.tasks.items;
+      table = b.answers;
+      tasks = b.tasks;
       claimed = b.claimed;
       claims = b.claims.items;
       linker = b.linker;
@@ -50,48 +52,7 @@ impl Model for Build {
     } };
 
     // There is room for the claim of each task that is open.
-    ghost invariant = { λ b. (vec_len b.claims ≤ b.claimed) × (b.claimed ≤ vec_len b.tasks) × (vec_len b.tasks ≤ vec_capacity b.claims) };
-}
-
-/// The tasks of so many entries, which are numbered with 32 bits.
-fn entry_tasks(alloc: Global, entries: usize) -> Result<Vec<Task>, Memory>
-    ensures { IfOk result (λ tasks. tasks.items ≡ entry_tasks entries) }
-{
-    let count = u32::try_from(entries).map_err(|_| Memory)?;
-    let mut tasks = Vec::with_capacity(alloc, entries)?;
-    for number in 0..count {
-        tasks.push(Task::Entry(number))?;
-    }
-    Ok(tasks)
-}
-
-/// The task that a resolved entry or import names.
-fn named_by(resolved: &Resolved) -> Result<Option<Task>, Memory>
-    ensures { IfOk result (λ t. t ≡ named_by resolved.now) }
-{
-    match resolved {
-        Resolved::To { name, marked: _ } => Ok(Some(Task::Load(name.share()?))),
-        Resolved::External => Ok(None),
-        Resolved::Left => Ok(None),
-        Resolved::Refused(_) => Ok(None),
-    }
-}
-
-/// The task that a product names.
-fn named(product: &Product) -> Result<Option<Task>, Memory>
-    ensures { IfOk result (λ t. t ≡ named product.now) }
-{
-    match product {
-        Product::Entry(resolved) => named_by(resolved),
-        Product::Load(_) => Ok(None),
-    }
-}
-
-/// Whether the task is among these.
-fn has_task(tasks: &[Task], task: &Task) -> bool
-    ensures { result ≡ list_any (same_task task.now) tasks.now }
-{
-    tasks.iter().any(|other| task.is(other))
+    ghost invariant = { λ b. (vec_len b.claims ≤ b.claimed) × (b.claimed ≤ length b.tasks) × (length b.tasks ≤ vec_capacity b.claims) };
 }
 
 /// Whether a claim is this worker's, of this task.
@@ -141,13 +102,13 @@ impl Build {
     pub(crate) fn new(alloc: Global, key: u32, options: Shared<Options>) -> Result<Build, Memory>
         ensures { IfOk result (λ b. b ≡ fresh key options) }
     {
-        let tasks = entry_tasks(alloc, options.get().entries.len())?;
+        let tasks = Opened::of_entries(alloc, options.get().entries.len())?;
         let claims = Vec::with_capacity(alloc, tasks.len())?;
         Ok(Build {
             key,
             options,
             waiting: Vec::new(alloc),
-            table: Table::new(alloc),
+            answers: Answers::new(alloc),
             tasks,
             claimed: 0,
             claims,
@@ -188,7 +149,7 @@ impl Build {
     pub(crate) fn table(&self) -> &Table
         ensures { result.now ≡ self.now.table }
     {
-        &self.table
+        self.answers.table()
     }
 
     pub(crate) fn outcome(&self) -> Option<&Outcome>
@@ -322,68 +283,62 @@ impl Build {
         self.linker = Some(worker);
     }
 
+    /// Whether the build would be too large with this answer too.
+    pub(crate) fn overfill(&self, question: &Question, answer: &Answer) -> bool
+        ensures { result ≡ is_overfull (kept self.now.table question.now answer.now) }
+    {
+        self.answers.overfill(question, answer)
+    }
+
+    /// Whether the build would be too large with this task too.
+    pub(crate) fn overopen(&self, task: &Option<Task>) -> bool
+        ensures { result ≡ has_too_many (opened self.now.tasks task.now) }
+    {
+        self.tasks.overfill(task)
+    }
+
     /// Keeps the first answer to a question of a build that isn't settled.
     pub(crate) fn record(&mut self, question: Question, answer: Answer) -> Result<Told, Memory>
-        requires { fits question answer ≡ true }
-        ensures told { IfOk result (λ t. t ≡ told_record self.old question answer None) }
+        requires fitting { fits question answer ≡ true }
+        requires room { is_overfull (kept self.old.table question answer) ≡ false }
+        ensures told { IfOk result (λ t. t ≡ told_record self.old.table question answer None) }
         ensures ok { OnOk result (self.new ≡ answered self.old question answer) }
         ensures err { OnErr result (self.new ≡ self.old) }
         ensures stays { StaysBy 0 self.old self.new }
     {
-        Ok(Told::Kept(self.table.put(question, answer)?))
+        Ok(Told::Kept(self.answers.put(question, answer)?))
     }
 
-    /// The claim of a task ends.
-    fn unclaim(&mut self, worker: u32, task: &Task)
-        ensures { self.new ≡ unclaimed self.old worker task.now }
+    /// The claim of a task ends. It takes no memory.
+    pub(crate) fn unclaim(&mut self, worker: u32, task: &Task)
+        ensures after { self.new ≡ unclaimed self.old worker task.now }
+        ensures stays { StaysBy 0 self.old self.new }
     {
         end_claim(&mut self.claims, worker, task);
     }
 
     /// A task is opened if it is new, with room for its claim.
-    fn open(&mut self, task: Option<Task>) -> Result<(), Memory>
-        ensures ok { OnOk result (self.new ≡ record self.old { tasks = opened self.old.tasks task }) }
+    pub(crate) fn open(&mut self, task: Task) -> Result<(), Memory>
+        requires room { has_too_many (opened self.old.tasks (Some task)) ≡ false }
+        ensures ok { OnOk result (self.new ≡ tasked self.old task) }
         ensures err { OnErr result (self.new ≡ self.old) }
+        ensures stays { StaysBy 0 self.old self.new }
     {
-        let Some(task) = task else {
-            return Ok(());
-        };
-        if has_task(&self.tasks, &task) {
+        if self.tasks.has(&task) {
             return Ok(());
         }
         self.open_new(task)
     }
 
     fn open_new(&mut self, task: Task) -> Result<(), Memory>
+        requires room { has_too_many (self.old.tasks ++ task ∷ []) ≡ false }
         ensures ok { OnOk result (self.new ≡ record self.old { tasks = self.old.tasks ++ task ∷ [] }) }
         ensures err { OnErr result (self.new ≡ self.old) }
     {
         let more = self.tasks.len() - self.claims.len();
         let more = more.checked_add(1).ok_or(Memory)?;
         self.claims.reserve(more)?;
-        self.tasks.push(task)?;
-        Ok(())
-    }
-
-    /// A task is done. What its product names is opened, unless the build is settled.
-    pub(crate) fn deliver(
-        &mut self,
-        worker: u32,
-        task: &Task,
-        product: &Product,
-    ) -> Result<Told, Memory>
-        ensures told { IfOk result (λ t. t ≡ told_stale self.old.outcome) }
-        ensures ok { OnOk result (self.new ≡ delivered self.old worker task.now product.now self.old.outcome) }
-        ensures err { OnErr result (self.new ≡ self.old) }
-        ensures stays { StaysBy 0 self.old self.new }
-    {
-        if self.is_settled() {
-            self.unclaim(worker, task);
-            return Ok(Told::Stale);
-        }
-        self.open(named(product)?)?;
-        self.unclaim(worker, task);
-        Ok(Told::Done)
+        self.tasks.push(task)
     }
 
     /// A worker's claims end. It takes no memory.

@@ -2,10 +2,12 @@
 #![tactic(auto)]
 
 mod always;
+mod answers;
 mod build;
 mod contexts;
 mod event;
 mod machine;
+mod opened;
 mod out;
 mod packets;
 mod replies;

@@ -20,7 +20,7 @@ some_is_not (Some o) h e = settled_is_not o e
 -- a move leaves each settled build settled
 pub stays-settled : (s : State) (m : Move) (n : ℕ) → IsSome (build_at s.builds n).outcome → IsSome (build_at (moved s m).builds n).outcome
 stays-settled s m =
-    each-moved (λ k b. IsSome (build_at s.builds k).outcome → IsSome b.outcome) (λ k key options h. h) (λ k b id h. h) (λ k b q a h. h)
+    each-moved (λ k b. IsSome (build_at s.builds k).outcome → IsSome b.outcome) (λ k key options h. h) (λ k b id h. h) (λ k b q a h. h) (λ k b t h. h)
     (λ k b o h is. refl) s m (λ k is. is)
 
 -- the build that is settled by an event is settled before its work is taken note of

@@ -1,8 +1,9 @@
 -- Each task of a build that isn't settled is open, or claimed, or has its product.
-use Rattle.std.proofs.Common.{◌≡◌, ℕ, ◌<◌, ◌≤◌, ◌⊎◌, inl, inr, Bool, true, not, List, [], ◌∷◌, ◌++◌, length, Option, None, Some, IsSome, refl, sym, ap, subst, ◌∙◌, arith, nat_eq, slice_get}
+use Rattle.std.proofs.Common.{◌≡◌, ℕ, ◌<◌, ◌≤◌, ◌⊎◌, inl, inr, Bool, true, not, List, [], ◌∷◌, ◌++◌, length, Option, None, Some, IsSome, refl, sym, ap, subst, ◌∙◌, arith, nat_eq, slice_get, slice_set, false}
 use Rattle.std.specs.Prelude.{filter, is_none}
 use Rattle.std.specs.List.{list_any}
 use Rattle.std.proofs.lemmas.Option.{slice_get_within}
+use Rattle.std.proofs.lemmas.List.{get_or-set_same}
 use Rattle.esb_base.specs.declared.file_name.FileName.{FileName}
 use Rattle.esb_flags.specs.declared.options.Options.{Options}
 use Rattle.esb_ask.specs.declared.question.Question.{Question}
@@ -17,10 +18,11 @@ use Rattle.esb_ask.specs.Table.{kept}
 use Rattle.esb_ask.specs.Tasks.{same_task}
 use Rattle.esb_ask.proofs.Tables.{kept_extends}
 use Rattle.esb_core.specs.declared.event.Job.TheVariants as job
-use Rattle.esb_core.specs.State.{Building, State, build_at}
-use Rattle.esb_core.specs.Moves.{Move}
+use Rattle.esb_core.specs.State.{Building, State, build_at, no_build}
+use Rattle.esb_core.specs.Moves.{Move, assign, close, closed, added_or, opens, opened_unless}
 use Rattle.esb_core.specs.Steps
-use Rattle.esb_core.specs.Steps.{named, opened, is_claim, task_claimed, link_claimed, all_moved, joined, answered, delivered, released}
+use Rattle.esb_core.specs.Sizes.{named, opened, with_task, is_overfull, has_too_many, too_large}
+use Rattle.esb_core.specs.Steps.{is_claim, task_claimed, link_claimed, all_moved, joined, answered, tasked, ended_by, standing, released}
 use Rattle.esb_core.specs.Allowed.{job_of}
 use Rattle.esb_core.proofs.Claims.{job-fits, both_parts}
 use Rattle.esb_core.proofs.Each.{each-all_moved}
@@ -90,41 +92,99 @@ kept-on_way b q a h = record { entries = h.entries; within = h.within; taken = �
       leads = done.leads;
     })
 
-opened-on_way : (b : Building) (worker : ℕ) (t : Task) (p : Product) → run b.options b.table t ≡ run_of.Done p → IsOnWay b
-    → IsOnWay (record (Steps.unclaimed b worker t) { tasks = opened b.tasks (named p) })
-opened-on_way b worker t p given h = record {
-  entries = λ number lt. opened-keeps b.tasks (named p) (task.Entry number) (h.entries number lt);
-  within = let more = opened-longer b.tasks (named p) in let less = h.within in omega arith;
-  taken = λ i u lt at.
+tasked-on_way : (b : Building) (u : Task) → IsOnWay b → IsOnWay (tasked b u)
+tasked-on_way b u h = record {
+  entries = λ number lt. opened-keeps b.tasks (Some u) (task.Entry number) (h.entries number lt);
+  within = let more = opened-longer b.tasks (Some u) in let less = h.within in omega arith;
+  taken = λ i t lt at.
       let inside : i < length b.tasks = let less = h.within in omega arith in
-      by u (h.taken i u lt (sym (opened-get b.tasks (named p) i inside) ∙ at));
+      by t (h.taken i t lt (sym (opened-get b.tasks (Some u) i inside) ∙ at));
+}
+  where
+    by : (t : Task) → (stands b.claims t ≡ true) ⊎ IsFinished b.options b.table b.tasks t → (stands b.claims t ≡ true) ⊎ IsFinished b.options b.table (with_task b.tasks u) t
+    by t (inl claim) = inl claim
+    by t (inr done) = inr (record {
+      product = done.product;
+      given = done.given;
+      leads = λ v names. opened-keeps b.tasks (Some u) v (done.leads v names);
+    })
+
+-- what a product names is among the tasks
+abbrev pub Leads : List Task → Product → Type 0
+Leads tasks p = (u : Task) → named p ≡ Some u → list_any (same_task u) tasks ≡ true
+
+unclaimed-on_way : (b : Building) (worker : ℕ) (t : Task) (p : Product) → run b.options b.table t ≡ run_of.Done p → Leads b.tasks p → IsOnWay b → IsOnWay (Steps.unclaimed b worker t)
+unclaimed-on_way b worker t p given leads h = record {
+  entries = h.entries;
+  within = h.within;
+  taken = λ i u lt at. by u (h.taken i u lt at);
 }
   where
     left : List (ℕ × Task)
     left = filter (λ claim. not (is_claim worker t claim)) b.claims
 
-    delivers : (u : Task) → (stands left u ≡ true) ⊎ (u ≡ t) → (stands left u ≡ true) ⊎ IsFinished b.options b.table (opened b.tasks (named p)) u
+    delivers : (u : Task) → (stands left u ≡ true) ⊎ (u ≡ t) → (stands left u ≡ true) ⊎ IsFinished b.options b.table b.tasks u
     delivers u (inl claim) = inl claim
     delivers u (inr same) = inr (record {
       product = p;
       given = ap (λ (v : Task). run b.options b.table v) same ∙ given;
-      leads = λ v names. opened-has b.tasks (named p) v names;
+      leads = leads;
     })
 
-    by : (u : Task) → (stands b.claims u ≡ true) ⊎ IsFinished b.options b.table b.tasks u → (stands left u ≡ true) ⊎ IsFinished b.options b.table (opened b.tasks (named p)) u
+    by : (u : Task) → (stands b.claims u ≡ true) ⊎ IsFinished b.options b.table b.tasks u → (stands left u ≡ true) ⊎ IsFinished b.options b.table b.tasks u
     by u (inl claim) = delivers u (stands-after b.claims worker t u claim)
-    by u (inr done) = inr (record {
-      product = done.product;
-      given = done.given;
-      leads = λ v names. opened-keeps b.tasks (named p) v (done.leads v names);
-    })
+    by u (inr done) = inr done
 
-pub delivered-on_way : (b : Building) (worker : ℕ) (t : Task) (p : Product) → run b.options b.table t ≡ run_of.Done p → OnWay b → OnWay (delivered b worker t p b.outcome)
-delivered-on_way b worker t p given h = by b.outcome refl
+-- what the moves of a delivered task leave of its build
+record Leaves (b c : Building) (t : Option Task) : Type 0 where
+  same_options : c.options ≡ b.options
+  same_table : c.table ≡ b.table
+  leads : c.outcome ≡ None → (u : Task) → t ≡ Some u → list_any (same_task u) c.tasks ≡ true
+
+deliver-leaves : (s : State) (n : ℕ) (t : Option Task) (o : Option Outcome) → n < length s.builds → (build_at s.builds n).outcome ≡ o
+    → (let u : State = all_moved s (opened_unless (standing s n) n t o) in Leaves (build_at s.builds n) (build_at u.builds n) t)
+deliver-leaves s n t (Some o) lt is = record { same_options = refl; same_table = refl; leads = λ none. settled_is_not o (sym is ∙ none) }
+deliver-leaves s n t None lt is = by (has_too_many (opened (build_at s.builds n).tasks t))
   where
-    by : (o : Option Outcome) → b.outcome ≡ o → OnWay (delivered b worker t p o)
-    by None is none = opened-on_way b worker t p given (h is)
-    by (Some o) is none = settled_is_not o (sym is ∙ none)
+    b : Building
+    b = build_at s.builds n
+
+    ends : (c : Building) → c ≡ ended_by b too_large → Leaves b c t
+    ends c same = record {
+      same_options = ap (λ (d : Building). d.options) same;
+      same_table = ap (λ (d : Building). d.table) same;
+      leads = λ none. settled_is_not too_large (sym (ap (λ (d : Building). d.outcome) same) ∙ none);
+    }
+
+    there : build_at (slice_set s.builds n (ended_by b too_large)) n ≡ ended_by b too_large
+    there = get_or-set_same s.builds n (ended_by b too_large) no_build lt
+
+    closes : (stays : Bool) → (let u : State = all_moved s (closed b.key stays n too_large) in Leaves b (build_at u.builds n) t)
+    closes true = ends _ there
+    closes false = ends _ there
+
+    adds : (v : Option Task) → v ≡ t → (let u : State = all_moved s (opens n v) in Leaves b (build_at u.builds n) t)
+    adds None same = record { same_options = refl; same_table = refl; leads = λ none u names. absurd (let e : None ≡ Some u = same ∙ names in let f : ⊥ = cc in f) }
+    adds (Some v) same =
+        let here : build_at (slice_set s.builds n (tasked b v)) n ≡ tasked b v = get_or-set_same s.builds n (tasked b v) no_build lt in
+        record {
+          same_options = ap (λ (d : Building). d.options) here;
+          same_table = ap (λ (d : Building). d.table) here;
+          leads = λ none u names. ap (λ (d : Building). list_any (same_task u) d.tasks) here ∙ opened-has b.tasks (Some v) u (same ∙ names);
+        }
+
+    by : (large : Bool) → (let u : State = all_moved s (added_or (standing s n) n large (opens n t)) in Leaves b (build_at u.builds n) t)
+    by true = closes b.options.context
+    by false = adds t refl
+
+pub delivered-on_way : (s : State) (n worker : ℕ) (t : Task) (p : Product) → n < length s.builds → run (build_at s.builds n).options (build_at s.builds n).table t ≡ run_of.Done p
+    → (let u : State = all_moved s (opened_unless (standing s n) n (named p) (build_at s.builds n).outcome) in OnWay (build_at u.builds n) → OnWay (Steps.unclaimed (build_at u.builds n) worker t))
+delivered-on_way s n worker t p lt given h none =
+    let u : State = all_moved s (opened_unless (standing s n) n (named p) (build_at s.builds n).outcome) in
+    let left = deliver-leaves s n (named p) (build_at s.builds n).outcome lt refl in
+    unclaimed-on_way (build_at u.builds n) worker t p
+    (ap (λ (o : Options). run o (build_at u.builds n).table t) left.same_options ∙ ap (λ (q : List (Question × Answer)). run (build_at s.builds n).options q t) left.same_table ∙ given)
+    (left.leads none) (h none)
 
 pub released-on_way : (b : Building) (worker : ℕ) → IsSome b.outcome → OnWay (released b worker)
 released-on_way b worker h none = some_is_not b.outcome h none
@@ -132,7 +192,7 @@ released-on_way b worker h none = some_is_not b.outcome h none
 -- moves leave each build on its way
 pub moves-on_way : (s : State) (ms : List Move) → ((n : ℕ) → OnWay (build_at s.builds n)) → (n : ℕ) → OnWay (build_at (all_moved s ms).builds n)
 moves-on_way s ms h =
-    each-all_moved (λ k b. OnWay b) (λ k key options own. fresh-on_way key options) (λ k b id own. joined-on_way b id own) (λ k b q a own none. kept-on_way b q a (own none))
+    each-all_moved (λ k b. OnWay b) (λ k key options own. fresh-on_way key options) (λ k b id own. joined-on_way b id own) (λ k b q a own none. kept-on_way b q a (own none)) (λ k b t own none. tasked-on_way b t (own none))
     (λ k b o own none. settled_is_not o none) s ms h
 
 -- ---- the link

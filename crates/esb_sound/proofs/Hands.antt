@@ -1,5 +1,5 @@
 -- With one worker, a build that isn't settled has no claim but that of the job in hand.
-use Rattle.std.proofs.Common.{◌≡◌, ◌⊎◌, inl, inr, append_assoc, ℕ, zero, suc, ◌+◌, ◌<◌, Bool, true, false, cond, not, ◌&&◌, List, [], ◌∷◌, ◌++◌, length, Option, None, Some, IsSome, refl, sym, ap, subst, ◌∙◌, arith, nat_eq, slice_get, slice_set}
+use Rattle.std.proofs.Common.{◌≡◌, ◌⊎◌, inl, inr, append_assoc, ℕ, zero, suc, ◌+◌, ◌<◌, ◌≤◌, Bool, true, false, cond, not, ◌&&◌, List, [], ◌∷◌, ◌++◌, length, Option, None, Some, IsSome, refl, sym, ap, subst, ◌∙◌, arith, nat_eq, slice_get, slice_set}
 use Rattle.std.specs.Prelude.{filter, fold, is_none, is_some}
 use Rattle.std.proofs.lemmas.Bool.{eqb-true, ltb-true}
 use Rattle.std.proofs.lemmas.List.{length-map}
@@ -18,16 +18,17 @@ use Rattle.esb_core.specs.declared.event.Event.TheVariants as event
 use Rattle.esb_core.specs.State.{Building, State, build_at, no_build, start}
 use Rattle.esb_core.specs.Moves.{Move}
 use Rattle.esb_core.specs.Steps
-use Rattle.esb_core.specs.Steps.{after, all_moved, moves, fresh, joined, answered, is_claim, task_claimed, link_claimed, delivered, released}
+use Rattle.esb_core.specs.Steps.{after, all_moved, moves, fresh, joined, answered, tasked, is_claim, task_claimed, link_claimed, released}
 use Rattle.esb_core.specs.Allowed.{allowed, has_begun, first_from, first_job, job_by, job_of, job_unless, link_if, is_scanned, names_job, or_next, has_task, may_settle}
 use Rattle.esb_core.specs.History.{builds, is_legal, is_legal_from, outcome, replay, replay_from}
 use Rattle.esb_core.proofs.Claims.{claim-is, scan-is, link-is, both_parts}
 use Rattle.esb_core.proofs.Each.{each-all_moved}
 use Rattle.esb_core.proofs.Readings.{at-set, begun_of}
-use Rattle.esb_core.proofs.Laws.{all_moved-longer, reads-legal}
+use Rattle.esb_core.proofs.Laws.{IsRead, all_moved-longer, read-legal, reads-legal, reads-step}
 use Rattle.esb_sound.specs.Each.{Each, Each-from}
-use Rattle.esb_sound.specs.Serial.{doing, doing_after, Handles, InTurn, IsInTurn}
+use Rattle.esb_sound.specs.Serial.{build_of, doing, doing_after, going_on, in_hand, unless_over, Handles, InTurn, IsInTurn}
 use Rattle.esb_sound.proofs.Builds.{settled_is_not, some_is_not, settle-settles}
+use Rattle.esb_sound.proofs.Doing.{doing-hand, hand-push}
 
 -- ---- the claims that a job in hand makes
 
@@ -70,11 +71,6 @@ set-others P bs n b lt others own m = subst (λ (c : Building). P m c) (sym (at-
 
 -- ---- jobs that are taken up and given back
 
--- the build that a job is of
-abbrev build_of : Job → ℕ
-build_of (job.Scan n t) = n
-build_of (job.Link n) = n
-
 -- a job makes no claim in another build
 no_claims : (j : Job) (k : ℕ) → nat_eq (build_of j) k ≡ false → claims_of k (Some j) ≡ []
 no_claims (job.Scan n t) k e = ap (λ (c : Bool). cond c ((0, t) ∷ []) []) e
@@ -104,8 +100,11 @@ link-claimed n b h none = record {
   linker = ap (λ (c : Bool). cond c (Some 0) None) (sym (self n));
 }
 
-delivered-has : (n : ℕ) (b : Building) (t : Task) (p : Product) → Has (Some (job.Scan n t)) n b → Has None n (delivered b 0 t p b.outcome)
-delivered-has n b t p h = by b.outcome refl
+delivered-has : (n : ℕ) (b : Building) (t : Task) → Has (Some (job.Scan n t)) n b → Has None n (Steps.unclaimed b 0 t)
+delivered-has n b t h none = record {
+  claims = ap left ((h none).claims ∙ ap (λ (c : Bool). cond c ((0, t) ∷ []) []) (self n)) ∙ gone;
+  linker = (h none).linker;
+}
   where
     own : is_claim 0 t (0, t) ≡ true
     own = same_task-refl t
@@ -116,18 +115,11 @@ delivered-has n b t p h = by b.outcome refl
     gone : left ((0, t) ∷ []) ≡ []
     gone = ap (λ (c : Bool). cond (not c) ((0, t) ∷ []) []) own
 
-    by : (o : Option Outcome) → b.outcome ≡ o → Has None n (delivered b 0 t p o)
-    by None is none = record {
-      claims = ap left ((h is).claims ∙ ap (λ (c : Bool). cond c ((0, t) ∷ []) []) (self n)) ∙ gone;
-      linker = (h is).linker;
-    }
-    by (Some o) is none = settled_is_not o (sym is ∙ none)
-
 -- moves change nothing of what is claimed
 moves-have : (hand : Option Job) (s : State) (ms : List Move) → AllHave hand s → AllHave hand (all_moved s ms)
 moves-have hand s ms h =
     each-all_moved (Has hand) (λ k key options own. alike hand k no_build (fresh key options) refl refl refl own) (λ k b id own. alike hand k b (joined b id) refl refl refl own)
-    (λ k b q a own. alike hand k b (answered b q a) refl refl refl own) (λ k b o own none. settled_is_not o none) s ms h
+    (λ k b q a own. alike hand k b (answered b q a) refl refl refl own) (λ k b t own. alike hand k b (tasked b t) refl refl refl own) (λ k b o own none. settled_is_not o none) s ms h
 
 -- ---- steps
 
@@ -139,11 +131,10 @@ claims s (job.Link n) may h =
     set-others (λ k c. Has (Some (job.Link n)) k c) s.builds n (link_claimed (build_at s.builds n) 0) (link-is s.builds n (claim-is s 0 (job.Link n) may)).begun
     (λ k apart. taken-up (job.Link n) k (build_at s.builds k) apart (h k)) (link-claimed n (build_at s.builds n) (h n))
 
-delivers : (s : State) (n : ℕ) (t : Task) (p : Product) → n < length s.builds → AllHave (Some (job.Scan n t)) s
-    → AllHave None (Steps.changed s n (delivered (build_at s.builds n) 0 t p (build_at s.builds n).outcome))
-delivers s n t p lt h =
-    set-others (λ k c. Has None k c) s.builds n (delivered (build_at s.builds n) 0 t p (build_at s.builds n).outcome) lt
-    (λ k apart. given-back (job.Scan n t) k (build_at s.builds k) apart (h k)) (delivered-has n (build_at s.builds n) t p (h n))
+delivers : (s : State) (n : ℕ) (t : Task) → n < length s.builds → AllHave (Some (job.Scan n t)) s → AllHave None (Steps.changed s n (Steps.unclaimed (build_at s.builds n) 0 t))
+delivers s n t lt h =
+    set-others (λ k c. Has None k c) s.builds n (Steps.unclaimed (build_at s.builds n) 0 t) lt
+    (λ k apart. given-back (job.Scan n t) k (build_at s.builds k) apart (h k)) (delivered-has n (build_at s.builds n) t (h n))
 
 settles : (s : State) (worker : ℕ) (j : Job) → build_of j < length s.builds → IsSome (build_at s.builds (build_of j)).outcome → AllHave (Some j) s
     → AllHave None (Steps.changed s (build_of j) (released (build_at s.builds (build_of j)) worker))
@@ -151,19 +142,43 @@ settles s worker j lt is h =
     set-others (λ k c. Has None k c) s.builds (build_of j) (released (build_at s.builds (build_of j)) worker) lt
     (λ k apart. given-back j k (build_at s.builds k) apart (h k)) (λ none. some_is_not (build_at s.builds (build_of j)).outcome is none)
 
+-- where no job is done, none makes a claim: the one in hand is of a settled build
+free-have : (s : State) (before : List Event) → ((n : ℕ) → (build_at s.builds n).outcome ≡ outcome before n) → doing before ≡ None → AllHave (in_hand before) s → AllHave None s
+free-have s before reads free h = by (in_hand before) refl free
+  where
+    over : (j : Job) → (o : Option Outcome) → outcome before (build_of j) ≡ o → unless_over o j ≡ None → in_hand before ≡ Some j → AllHave None s
+    over j None is none hand = absurd (let e : Some j ≡ None = none in let f : ⊥ = cc in f)
+    over j (Some p) is none hand = λ k. at k (nat_eq (build_of j) k) refl
+      where
+        at : (k : ℕ) (t : Bool) → nat_eq (build_of j) k ≡ t → Has None k (build_at s.builds k)
+        at k true same unsettled = settled_is_not p (sym is ∙ ap (λ (m : ℕ). outcome before m) (eqb-true (build_of j) k same) ∙ sym (reads k) ∙ unsettled)
+        at k false apart unsettled = given-back j k (build_at s.builds k) apart (subst (λ (hand_now : Option Job). Has hand_now k (build_at s.builds k)) hand (h k)) unsettled
+
+    by : (hand : Option Job) → in_hand before ≡ hand → going_on before hand ≡ None → AllHave None s
+    by None hand none = subst (λ (o : Option Job). AllHave o s) hand h
+    by (Some j) hand none = over j (outcome before (build_of j)) refl none hand
+
 -- each step of an event that is allowed, where the one worker handles one job at a time
-step : (s : State) (before : List Event) (e : Event) → allowed s e ≡ true → Handles before e → AllHave (doing before) s → AllHave (doing_after (doing before) e) (after s e)
-step s before (event.Arrive packet) may handles h = moves-have (doing before) s (moves s (event.Arrive packet)) h
-step s before event.EndOfInput may handles h = h
-step s before (event.Claim ro j) may handles h =
+step : (s : State) (before : List Event) (e : Event) → ((n : ℕ) → (build_at s.builds n).outcome ≡ outcome before n) → allowed s e ≡ true → Handles before e → AllHave (in_hand before) s → AllHave (doing_after (in_hand before) e) (after s e)
+step s before (event.Arrive packet) reads may handles h = moves-have (in_hand before) s (moves s (event.Arrive packet)) h
+step s before event.EndOfInput reads may handles h = h
+step s before (event.Claim ro j) reads may handles h =
     subst (λ (r : Role). AllHave (Some j) (Steps.after_claim s r j)) (sym handles.0)
-    (claims s j (ap (λ (r : Role). names_job (first_job s r) j) (sym handles.0) ∙ may) (subst (λ (hand : Option Job). AllHave hand s) handles.1 h))
-step s before (event.Record worker n q a) may handles h = moves-have (doing before) s (moves s (event.Record worker n q a)) h
-step s before (event.Deliver worker n t p) may handles h =
-    subst (λ (w : ℕ). AllHave None (Steps.changed s n (delivered (build_at s.builds n) w t p (build_at s.builds n).outcome))) (sym handles.0)
-    (delivers s n t p (ltb-true n (length s.builds) (both_parts (has_begun s n) (has_task (build_at s.builds n) worker t && product_fits t p) may).0)
-    (subst (λ (hand : Option Job). AllHave hand s) handles.1 h))
-step s before (event.Settle worker n o) may handles h = by handles.1
+    (claims s j (ap (λ (r : Role). names_job (first_job s r) j) (sym handles.0) ∙ may) (free-have s before reads handles.1 h))
+step s before (event.Record worker n q a) reads may handles h = moves-have (in_hand before) s (moves s (event.Record worker n q a)) h
+step s before (event.Deliver worker n t p) reads may handles h =
+    subst (λ (w : ℕ). AllHave None (Steps.changed u n (Steps.unclaimed (build_at u.builds n) w t))) (sym handles.0)
+    (delivers u n t (omega (arith, lt, longer)) (moves-have (Some (job.Scan n t)) s (moves s (event.Deliver worker n t p)) (subst (λ (hand : Option Job). AllHave hand s) (doing-hand before (job.Scan n t) handles.1) h)))
+  where
+    u : State
+    u = all_moved s (moves s (event.Deliver worker n t p))
+
+    lt : n < length s.builds
+    lt = ltb-true n (length s.builds) (both_parts (has_begun s n) (has_task (build_at s.builds n) worker t && product_fits t p) may).0
+
+    longer : length s.builds ≤ length u.builds
+    longer = all_moved-longer s (moves s (event.Deliver worker n t p))
+step s before (event.Settle worker n o) reads may handles h = by handles.1
   where
     u : State
     u = all_moved s (moves s (event.Settle worker n o))
@@ -175,30 +190,26 @@ step s before (event.Settle worker n o) may handles h = by handles.1
     within = let longer = all_moved-longer s (moves s (event.Settle worker n o)) in omega (arith, lt, longer)
 
     have : (j : Job) → doing before ≡ Some j → AllHave (Some j) u
-    have j is = moves-have (Some j) s (moves s (event.Settle worker n o)) (subst (λ (hand : Option Job). AllHave hand s) is h)
+    have j is = moves-have (Some j) s (moves s (event.Settle worker n o)) (subst (λ (hand : Option Job). AllHave hand s) (doing-hand before j is) h)
 
     by : (doing before ≡ Some (job.Link n)) ⊎ ((t : Task) × (doing before ≡ Some (job.Scan n t))) → AllHave None (Steps.changed u n (released (build_at u.builds n) worker))
     by (inl link) = settles u worker (job.Link n) within (settle-settles s worker n o lt) (have (job.Link n) link)
     by (inr scan) = settles u worker (job.Scan n scan.0) within (settle-settles s worker n o lt) (have (job.Scan n scan.0) scan.1)
-step s before event.Pop may handles h = h
+step s before event.Pop reads may handles h = h
 
 -- ---- lists
-
-fold-push : {X Y : Type 0} (f : Y → X → Y) (y : Y) (xs : List X) (x : X) → fold f y (xs ++ x ∷ []) ≡ f (fold f y xs) x
-fold-push f y [] x = refl
-fold-push f y (w ∷ xs) x = fold-push f (f y w) xs x
 
 list_end : {X : Type 0} (xs : List X) → xs ++ [] ≡ xs
 list_end [] = refl
 list_end (x ∷ xs) = ap (λ ys. x ∷ ys) (list_end xs)
 
-have-from : (s : State) (before more : List Event) → is_legal_from s more ≡ true → Each-from Handles before more → AllHave (doing before) s → AllHave (doing (before ++ more)) (replay_from s more)
-have-from s before [] legal all h = subst (λ (es : List Event). AllHave (doing es) s) (sym (list_end before)) h
-have-from s before (e ∷ more) legal all h =
+have-from : (s : State) (before more : List Event) → IsRead s before → is_legal_from s more ≡ true → Each-from Handles before more → AllHave (in_hand before) s → AllHave (in_hand (before ++ more)) (replay_from s more)
+have-from s before [] r legal all h = subst (λ (es : List Event). AllHave (in_hand es) s) (sym (list_end before)) h
+have-from s before (e ∷ more) r legal all h =
     let parts = both_parts (allowed s e) (is_legal_from (after s e) more) legal in
-    let now = subst (λ (hand : Option Job). AllHave hand (after s e)) (sym (fold-push doing_after None before e)) (step s before e parts.0 all.0 h) in
-    subst (λ (es : List Event). AllHave (doing es) (replay_from (after s e) more)) (append_assoc before (e ∷ []) more)
-    (have-from (after s e) (before ++ e ∷ []) more parts.1 all.1 now)
+    let now = subst (λ (hand : Option Job). AllHave hand (after s e)) (sym (hand-push before e)) (step s before e r.reads.outcomes parts.0 all.0 h) in
+    subst (λ (es : List Event). AllHave (in_hand es) (replay_from (after s e) more)) (append_assoc before (e ∷ []) more)
+    (have-from (after s e) (before ++ e ∷ []) more (reads-step s before e r parts.0) parts.1 all.1 now)
 
 at_start : AllHave None start
 at_start n none = record { claims = refl; linker = refl }
@@ -241,7 +252,7 @@ all-done events legal handled free none n lt =
     let s = replay events in
     let same : length (builds events) ≡ length s.builds = ap length (sym r.begun) ∙ length-map s.builds begun_of in
     let inside : n < length s.builds = omega (arith, same, lt) in
-    let all = subst (λ (hand : Option Job). AllHave hand s) free (have-from start [] events legal handled at_start) in
+    let all = free-have s events r.outcomes free (have-from start [] events (read-legal [] refl) legal handled at_start) in
     let is = no-job n (build_at s.builds n) (all n) (ap (λ (m : ℕ). job_of m (build_at s.builds n)) (omega arith) ∙ no-first 0 s.builds n none inside) in
     subst (λ (o : Option Outcome). IsSome o) (r.outcomes n) is
 

@@ -1,7 +1,9 @@
 pub mod Builds
+pub mod Doing
 pub mod Finished
 pub mod Hands
 pub mod Links
+pub mod Outcomes
 pub mod Owed
 pub mod Tasks
 pub mod Serial

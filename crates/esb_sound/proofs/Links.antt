@@ -1,10 +1,11 @@
 -- Where the link of a build is open, its answers are complete.
-use Rattle.std.proofs.Common.{◌≡◌, ℕ, zero, suc, true, List, [], ◌∷◌, ◌++◌, length, map, Some, refl, sym, ap, ◌∙◌, arith, slice_index_or}
+use Rattle.std.proofs.Common.{◌≡◌, ℕ, zero, suc, true, ◌&&◌, List, [], ◌∷◌, ◌++◌, length, map, Some, refl, sym, ap, ◌∙◌, arith, slice_index_or}
 use Rattle.std.proofs.lemmas.Bool.{ltb-true}
 use Rattle.esb_flags.specs.declared.options.Options.{Options}
 use Rattle.esb_ask.specs.declared.question.Question.{Question}
 use Rattle.esb_ask.specs.declared.answer.Answer.{Answer}
 use Rattle.esb_ask.specs.declared.task.Task.{Task}
+use Rattle.esb_ask.specs.Tasks.{product_fits}
 use Rattle.esb_core.specs.declared.event.Job.{Job}
 use Rattle.esb_core.specs.declared.event.Job.TheVariants as job
 use Rattle.esb_core.specs.declared.event.Role.{Role}
@@ -13,8 +14,8 @@ use Rattle.esb_core.specs.declared.event.Event.{Event}
 use Rattle.esb_core.specs.declared.event.Event.TheVariants as event
 use Rattle.esb_core.specs.State.{Building, State, build_at, start}
 use Rattle.esb_core.specs.Steps
-use Rattle.esb_core.specs.Steps.{after, all_moved, moves, task_claimed, link_claimed, delivered, released}
-use Rattle.esb_core.specs.Allowed.{allowed, has_begun, first_job, names_job, may_settle, job_of}
+use Rattle.esb_core.specs.Steps.{after, all_moved, moves, task_claimed, link_claimed, released}
+use Rattle.esb_core.specs.Allowed.{allowed, has_begun, has_task, first_job, names_job, may_settle, job_of}
 use Rattle.esb_core.specs.History.{no_begun, build, moves_in, table, is_legal, is_legal_from, replay, replay_from}
 use Rattle.esb_core.proofs.Claims.{claim-is, scan-is, both_parts}
 use Rattle.esb_core.proofs.Each.{each-set}
@@ -65,7 +66,10 @@ on_way-step s es event.EndOfInput r h may sound = h
 on_way-step s es (event.Claim ro j) r h may sound = claims s ro j may h
 on_way-step s es (event.Record worker n q a) r h may sound = moves-on_way s (moves s (event.Record worker n q a)) h
 on_way-step s es (event.Deliver worker n t p) r h may sound =
-    changes s n (delivered (build_at s.builds n) worker t p (build_at s.builds n).outcome) (delivered-on_way (build_at s.builds n) worker t p (run_is s es r n t ∙ sound) (h n)) h
+    let u : State = all_moved s (moves s (event.Deliver worker n t p)) in
+    let lt = ltb-true n (length s.builds) (both_parts (has_begun s n) (has_task (build_at s.builds n) worker t && product_fits t p) may).0 in
+    let moved : AllOnWay u = moves-on_way s (moves s (event.Deliver worker n t p)) h in
+    changes u n (Steps.unclaimed (build_at u.builds n) worker t) (delivered-on_way s n worker t p lt (run_is s es r n t ∙ sound) (moved n)) moved
 on_way-step s es (event.Settle worker n o) r h may sound =
     let t : State = all_moved s (moves s (event.Settle worker n o)) in
     let lt = ltb-true n (length s.builds) (both_parts (has_begun s n) (may_settle (build_at s.builds n) worker o) may).0 in

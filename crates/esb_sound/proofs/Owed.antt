@@ -25,13 +25,14 @@ use Rattle.esb_core.specs.declared.event.Event.{Event}
 use Rattle.esb_core.specs.declared.event.Event.TheVariants as event
 use Rattle.esb_core.specs.State.{Building, State, build_at, start}
 use Rattle.esb_core.specs.Steps
-use Rattle.esb_core.specs.Moves.{Move, make, remove, begin, join, owe, keep, close, take, Met, Standing, key_of, options_of, refusal, done, begun, joined_or_begun, closed, canceled, effect, refused_or, requested, kept_unless, closed_unless}
-use Rattle.esb_core.specs.Steps.{after, moved, all_moved, moves, met, standing, fresh, joined, answered, ended_by, results, task_claimed, link_claimed, delivered, released}
+use Rattle.esb_core.specs.Moves.{Move, make, remove, begin, join, owe, keep, assign, close, take, Met, Standing, key_of, options_of, refusal, done, begun, joined_or_begun, closed, canceled, effect, refused_or, requested, added_or, kept_unless, opens, opened_unless, closed_unless}
+use Rattle.esb_core.specs.Sizes.{named, opened, is_overfull, has_too_many, too_large}
+use Rattle.esb_ask.specs.Table.{kept}
+use Rattle.esb_core.specs.Steps.{after, moved, all_moved, moves, met, standing, fresh, joined, answered, tasked, ended_by, results, task_claimed, link_claimed, unclaimed, released}
 use Rattle.esb_core.specs.Allowed.{allowed, may_arrive, is_proper, id_limit}
 use Rattle.esb_core.specs.History.{is_legal, is_legal_from, replay, replay_from}
 use Rattle.esb_core.proofs.Claims.{both_parts}
 use Rattle.esb_core.proofs.Each.{each-set, each-push}
-use Rattle.esb_core.proofs.Laws.{delivered-same}
 use Rattle.esb_sound.specs.Ready.{IsReady}
 use Rattle.esb_sound.proofs.Builds.{stays-settled}
 
@@ -95,6 +96,7 @@ IsReadyMove (begin n key options) = Unit {0}
 IsReadyMove (join n id) = IsSmall id
 IsReadyMove (owe o) = IsReady [] o
 IsReadyMove (keep n q a) = Unit {0}
+IsReadyMove (assign n t) = Unit {0}
 IsReadyMove (close key n o) = Unit {0}
 IsReadyMove take = Unit {0}
 
@@ -142,6 +144,7 @@ module _ (s : State) (h : AreReady s) where
   }
   ready-moved (owe o) is = record { waiting = h.waiting; owed = all-push (IsReady s.builds) s.owed o h.owed (ready-anywhere s.builds o is) }
   ready-moved (keep n q a) is = record { waiting = waits n (answered (build_at s.builds n) q a) (h.waiting n); owed = still (keep n q a) }
+  ready-moved (assign n t) is = record { waiting = waits n (tasked (build_at s.builds n) t) (h.waiting n); owed = still (assign n t) }
   ready-moved (close key n o) is = record {
     waiting = waits n (ended_by (build_at s.builds n) o) (h.waiting n);
     owed = all-append (IsReady (moved s (close key n o)).builds) s.owed (results n (build_at s.builds n).waiting) (still (close key n o)) (closed_owes key n o);
@@ -196,10 +199,6 @@ arrives : (met : ℕ → Met) (p : Packet) (t : Bool) → p.id < 2 ^ 31 → AreR
 arrives met p false lt = tt
 arrives met p true lt = requests p.id lt met (asked p.value)
 
-records : (n : ℕ) (q : Question) (a : Answer) (o : Option Outcome) → AreReadyMoves (kept_unless n q a o)
-records n q a None = (tt, tt)
-records n q a (Some o) = tt
-
 settles : (at : Standing) (n : ℕ) (o : Outcome) (p : Option Outcome) → AreReadyMoves (closed_unless at n o p)
 settles at n o None = by at.stays
   where
@@ -207,6 +206,22 @@ settles at n o None = by at.stays
     by true = (tt, tt)
     by false = (tt, (tt, tt))
 settles at n o (Some p) = tt
+
+adds : (at : Standing) (n : ℕ) (large : Bool) (more : List Move) → AreReadyMoves more → AreReadyMoves (added_or at n large more)
+adds at n true more h = settles at n too_large None
+adds at n false more h = h
+
+records : (at : Standing) (n : ℕ) (q : Question) (a : Answer) (o : Option Outcome) → AreReadyMoves (kept_unless at n q a o)
+records at n q a None = adds at n (is_overfull (kept at.table q a)) (keep n q a ∷ []) (tt, tt)
+records at n q a (Some o) = tt
+
+opens-ready : (n : ℕ) (t : Option Task) → AreReadyMoves (opens n t)
+opens-ready n None = tt
+opens-ready n (Some t) = (tt, tt)
+
+delivers : (at : Standing) (n : ℕ) (t : Option Task) (o : Option Outcome) → AreReadyMoves (opened_unless at n t o)
+delivers at n t None = adds at n (has_too_many (opened at.tasks t)) (opens n t) (opens-ready n t)
+delivers at n t (Some o) = tt
 
 -- ---- the work of an event
 
@@ -225,12 +240,6 @@ claims s (role.Worker worker) (job.Scan n t) h = changes s n (task_claimed (buil
 claims s (role.Worker worker) (job.Link n) h = changes s n (link_claimed (build_at s.builds n) worker) refl refl h
 claims s (role.Door door) j h = h
 
-delivers : (s : State) (worker n : ℕ) (t : Task) (p : Product) → AreReady s → AreReady (Steps.changed s n (delivered (build_at s.builds n) worker t p (build_at s.builds n).outcome))
-delivers s worker n t p h =
-    let b : Building = build_at s.builds n in
-    changes s n (delivered b worker t p b.outcome) (delivered-same (λ c. c.waiting) b worker t p b.outcome (λ c claims tasks. refl))
-    (delivered-same (λ c. c.outcome) b worker t p b.outcome (λ c claims tasks. refl)) h
-
 -- each step of an allowed event
 ready-step : (s : State) (e : Event) → AreReady s → allowed s e ≡ true → AreReady (after s e)
 unfolding may_arrive
@@ -240,8 +249,10 @@ ready-step s (event.Arrive packet) h may =
     ready-all s (moves s (event.Arrive packet)) (arrives (met s) packet packet.request (ltb-true packet.id id_limit fit.0)) h
 ready-step s event.EndOfInput h may = record { waiting = h.waiting; owed = h.owed }
 ready-step s (event.Claim ro j) h may = claims s ro j h
-ready-step s (event.Record worker n q a) h may = ready-all s (moves s (event.Record worker n q a)) (records n q a (build_at s.builds n).outcome) h
-ready-step s (event.Deliver worker n t p) h may = delivers s worker n t p h
+ready-step s (event.Record worker n q a) h may = ready-all s (moves s (event.Record worker n q a)) (records (standing s n) n q a (build_at s.builds n).outcome) h
+ready-step s (event.Deliver worker n t p) h may =
+    let u : State = all_moved s (moves s (event.Deliver worker n t p)) in
+    changes u n (unclaimed (build_at u.builds n) worker t) refl refl (ready-all s (moves s (event.Deliver worker n t p)) (delivers (standing s n) n (named p) (build_at s.builds n).outcome) h)
 ready-step s (event.Settle worker n o) h may =
     let t : State = all_moved s (moves s (event.Settle worker n o)) in
     changes t n (released (build_at t.builds n) worker) refl refl (ready-all s (moves s (event.Settle worker n o)) (settles (standing s n) n o (build_at s.builds n).outcome) h)

@@ -7,7 +7,8 @@ use Rattle.esb_ask.specs.declared.task.Task.{Task}
 use Rattle.esb_ask.specs.declared.task.Task.TheVariants as task
 use Rattle.esb_ask.specs.Tasks.{same_task}
 use Rattle.esb_ask.proofs.SameTask.{equal-from_same_task, same_task-refl}
-use Rattle.esb_core.specs.Steps.{entry_tasks_from, opened, is_claim}
+use Rattle.esb_core.specs.Sizes.{opened}
+use Rattle.esb_core.specs.Steps.{entry_tasks_from, is_claim}
 use Rattle.esb_core.proofs.Claims.{both_parts}
 
 -- ---- tests

@@ -4,3 +4,4 @@ pub mod Sent
 pub mod Told
 pub mod Ready
 pub mod Serial
+pub mod Ends

@@ -14,7 +14,7 @@ use Rattle.esb_core.specs.declared.event.Role.TheVariants as roles
 use Rattle.esb_core.specs.declared.event.Event.{Event}
 use Rattle.esb_core.specs.declared.event.Event.TheVariants as events
 use Rattle.esb_core.specs.Allowed.{first_job}
-use Rattle.esb_core.specs.History.{build, owed, replay, table}
+use Rattle.esb_core.specs.History.{build, outcome, owed, replay, table}
 use Rattle.esb_scan.specs.declared.run.Run.{Run}
 use Rattle.esb_scan.specs.declared.run.Run.TheVariants as runs
 use Rattle.esb_scan.specs.Run.{run}
@@ -34,9 +34,26 @@ doing_after job (events.Arrive packet) = job
 doing_after job events.EndOfInput = job
 doing_after job events.Pop = job
 
--- the job that was claimed and is not yet done
+-- the job that was claimed last, and not given back
+abbrev pub in_hand : List Event → Option Job
+in_hand list = fold doing_after None list
+
+-- the build that a job is of
+abbrev pub build_of : Job → ℕ
+build_of (jobs.Scan n task) = n
+build_of (jobs.Link n) = n
+
+abbrev pub unless_over : Option Outcome → Job → Option Job
+unless_over None job = Some job
+unless_over (Some outcome) job = None
+
+abbrev pub going_on : List Event → Option Job → Option Job
+going_on list None = None
+going_on list (Some job) = unless_over (outcome list (build_of job)) job
+
+-- the job that was claimed and is not yet done. It is over too once its build is settled.
 abbrev pub doing : List Event → Option Job
-doing list = fold doing_after None list
+doing list = going_on list (in_hand list)
 
 -- ---- what comes next
 

@@ -11,7 +11,10 @@ ghost use Rattle.esb_core.specs.Allowed.{first_job, job_of};
 ghost use Rattle.esb_core.specs.History.{builds, is_legal, outcome, replay};
 ghost use Rattle.esb_core.specs.State.{build_at};
 ghost use Rattle.esb_scan.specs.Complete.{IsComplete};
+ghost use Rattle.esb_ask.specs.declared.outcome.Outcome.{Outcome};
+ghost use Rattle.esb_core.specs.Sizes.{too_large};
 ghost use Rattle.esb_sound.specs.Each.{Each};
+ghost use Rattle.esb_sound.specs.Ends.{EndsRight, IsOvergrown};
 ghost use Rattle.esb_sound.specs.Serial.{doing, Handles, IsSerial};
 ghost use Rattle.esb_sound.specs.Sound.{Sound};
 ghost use Rattle.esb_sound.specs.Ready.{IsReady};
@@ -39,4 +42,12 @@ pub fn serial_histories_are_one()
 pub fn builds_are_done()
     ensures { (events : List Event) → is_legal events ≡ true → Each Handles events → doing events ≡ None
         → first_job (replay events) (roles.Worker 0) ≡ None → (n : ℕ) → n < length (builds events) → IsSome (outcome events n) }
+{}
+
+/// A build whose work is right ends with the files or the messages of the link of its own answers, or was refused memory, or was
+/// canceled, or ends with the one message `Build is too large`: exactly where an answer or a product came to it with which it
+/// would be larger than a build may be, while it wasn't settled.
+pub fn outcomes_are_right()
+    ensures right { (events : List Event) (n : ℕ) (o : Outcome) → is_legal events ≡ true → Sound events → outcome events n ≡ Some o → EndsRight events n o }
+    ensures too_large { (events : List Event) (n : ℕ) → IsOvergrown events n → outcome events n ≡ Some too_large }
 {}

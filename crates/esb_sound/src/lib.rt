@@ -3,4 +3,7 @@
 
 mod laws;
 
-pub use laws::{builds_are_done, links_are_ready, replies_are_ready, serial_histories_are_one};
+pub use laws::{
+    builds_are_done, links_are_ready, outcomes_are_right, replies_are_ready,
+    serial_histories_are_one,
+};

@@ -1,7 +1,6 @@
 -- Which events come in their turn.
 use Rattle.std.proofs.Common.{◌≡◌, ◌⊎◌, ℕ, ◌<◌, true, false, List, [], ◌∷◌, ◌++◌, length, slice_get, Option, Some, None, inl, inr, refl, sym, ap, subst, ◌∙◌, arith}
 use Rattle.std.proofs.lemmas.Bool.{false≢true}
-use Rattle.std.proofs.lemmas.List.Sums.{fold-append}
 use Rattle.esb_base.specs.World.{Folder}
 use Rattle.esb_flags.specs.declared.options.Options.{Options}
 use Rattle.esb_wire.specs.declared.value.Packet.{Packet}
@@ -18,25 +17,45 @@ use Rattle.esb_core.specs.declared.event.Job.TheVariants as job
 use Rattle.esb_core.specs.declared.event.Role.TheVariants as role
 use Rattle.esb_core.specs.declared.event.Event.{Event}
 use Rattle.esb_core.specs.declared.event.Event.TheVariants as event
-use Rattle.esb_core.specs.Allowed.{first_job}
-use Rattle.esb_core.specs.History.{build, is_legal, owed, replay, table}
+use Rattle.esb_core.specs.Allowed.{allowed, first_job}
+use Rattle.esb_core.specs.History.{build, is_legal, outcome, owed, replay, table}
+use Rattle.esb_core.specs.State.{build_at}
 use Rattle.esb_core.proofs.Laws.{reads-legal}
+use Rattle.esb_core.proofs.Replays.{stands-push}
 use Rattle.esb_scan.specs.declared.run.Run.{Run}
 use Rattle.esb_scan.specs.declared.run.Run.TheVariants as runs
 use Rattle.esb_scan.specs.Run.{run}
 use Rattle.esb_link.specs.SerialLink.{serial_link}
 use Rattle.esb_sound.specs.Sent.{arrivals}
-use Rattle.esb_sound.specs.Serial.{InTurn, IsInTurn, claim_or, doing, doing_after, input_step, is_refusal, linked, next, pop_or, scan_step, step_by}
+use Rattle.esb_sound.specs.Serial.{InTurn, IsInTurn, build_of, claim_or, doing, doing_after, in_hand, input_step, is_refusal, linked, next, pop_or, scan_step, step_by}
 use Rattle.esb_sound.specs.Sound.{IsLinked}
+use Rattle.esb_sound.proofs.Doing.{ends, given-back, goes-on, stays-free}
 use Rattle.esb_sound.specs.Told.{is_fault, told}
 use Rattle.esb_top.specs.Turn.{IsAtRest, IsFree, TurnsOne}
 use Rattle.esb_top.proofs.Histories.{each-push}
 
-pub doing-push : (es : List Event) (e : Event) → doing (es ++ e ∷ []) ≡ doing_after (doing es) e
-doing-push es e = fold-append doing_after None es (e ∷ [])
+-- a job that is given back is done
+pub done-by : (es new : List Event) (e : Event) → new ≡ es ++ e ∷ [] → doing_after (in_hand es) e ≡ None → IsFree new
+done-by es new e is given = ap doing is ∙ given-back es e given
 
-pub doing-is : (es new : List Event) (e : Event) → new ≡ es ++ e ∷ [] → doing new ≡ doing_after (doing es) e
-doing-is es new e is = ap doing is ∙ doing-push es e
+-- where no job is in hand, an event that takes none up leaves it so
+pub free-by : (es new : List Event) (e : Event) → new ≡ es ++ e ∷ [] → doing_after (in_hand es) e ≡ in_hand es → IsFree es → IsFree new
+free-by es new e is same free = ap doing is ∙ stays-free es e same free
+
+-- one more event of a legal list, and how the build of a job then stands
+module _ (es new : List Event) (e : Event) (is : new ≡ es ++ e ∷ []) (legal : is_legal es ≡ true) (may : allowed (replay es) e ≡ true) (j : Job) where
+  outcome-is : outcome (es ++ e ∷ []) (build_of j) ≡ (build_at (replay new).builds (build_of j)).outcome
+  outcome-is =
+      sym ((reads-legal (es ++ e ∷ []) (stands-push (replay es) es e (record { legal = legal; replayed = refl }) may).legal).outcomes (build_of j))
+      ∙ ap (λ (ds : List Event). (build_at (replay ds).builds (build_of j)).outcome) (sym is)
+
+  -- the job goes on while its build isn't settled
+  pub going-by : doing_after (in_hand es) e ≡ Some j → (build_at (replay new).builds (build_of j)).outcome ≡ None → doing new ≡ Some j
+  going-by hand none = ap doing is ∙ goes-on es e j hand (outcome-is ∙ none)
+
+  -- it is over once its build is settled
+  pub over-by : (o : Outcome) → doing_after (in_hand es) e ≡ Some j → (build_at (replay new).builds (build_of j)).outcome ≡ Some o → IsFree new
+  over-by o hand some = ap doing is ∙ ends es e j o hand (outcome-is ∙ some)
 
 module _ (tells : Type 0) (world : List Folder) (es : List Event) where
   next-with : (packets : List Packet) (j : Option Job) → doing es ≡ j → next world packets es ≡ step_by world packets es j
@@ -139,4 +158,4 @@ turns-one tells world es new (inr (e, is, turn)) h =
     (each-push (IsInTurn tells world) es e h (record { goes_on = turn.goes_on; handles = turn.handles; follows = λ t. turn.follows tt }))
 
 pub popped-free : (es new : List Event) → IsFree es → new ≡ es ++ event.Pop ∷ [] → IsFree new
-popped-free es new free is = doing-is es new event.Pop is ∙ free
+popped-free es new free is = free-by es new event.Pop is refl free

@@ -1,5 +1,5 @@
 -- A session is as promised.
-use Rattle.std.proofs.Common.{◌≡◌, ◌⊎◌, ℕ, ◌<◌, ◌≤◌, cond, Option, Some, Bool, true, false, List, [], ◌∷◌, ◌++◌, inl, inr, refl, sym, ap, subst, ◌∙◌, arith}
+use Rattle.std.proofs.Common.{◌≡◌, ◌⊎◌, ℕ, ◌<◌, ◌≤◌, cond, Option, None, Some, Bool, true, false, List, [], ◌∷◌, ◌++◌, inl, inr, refl, sym, ap, subst, ◌∙◌, arith}
 use Rattle.std.specs.List.{flat_map, list_any}
 use Rattle.std.proofs.lemmas.Bool.{false≢true}
 use Rattle.std.proofs.lemmas.List.Sums.{sum_by-append}
@@ -9,6 +9,7 @@ use Rattle.esb_core.specs.State.{State, start}
 use Rattle.esb_core.proofs.Laws.{reads-legal}
 use Rattle.esb_core.proofs.Moving.{moves-push}
 use Rattle.esb_sound.proofs.Hands.{in-turn-done}
+use Rattle.esb_sound.proofs.Outcomes.{ends-right}
 use Rattle.esb_core.proofs.Claims.{both_parts}
 use Rattle.esb_core.proofs.Replays.{is_legal_from-append}
 use Rattle.std.specs.Prelude.{Result, Ok, Err, IfOk, IsSome, OnErr, length}
@@ -77,6 +78,7 @@ any-whole ht kt st greeting was now status place journal s = record {
   unrefused = s.unrefused;
   puts = s.puts;
   sound = s.sound;
+  right = s.right;
   from_host = s.from_host;
   counted = s.counted;
   serial = s.serial;
@@ -167,6 +169,7 @@ module _ (ht kt st : Type 0) (greeting : List ℕ) (was mid : Outside) (old : En
       unrefused = λ e. absurd cc;
       puts = λ t path. r.puts t path ∙ same_puts path;
       sound = final_sound;
+      right = λ n o ended. ends-right final n o legal final_sound ended;
       from_host = final_told;
       counted = final_counted;
       serial = λ t not_five. absurd (not_five refl);
@@ -237,6 +240,7 @@ module _ (ht kt st : Type 0) (greeting : List ℕ) (was mid : Outside) (old : En
       unrefused = unrefused;
       puts = λ t path. puts t path ∙ same_puts path;
       sound = final_sound;
+      right = λ n o ended. ends-right final n o legal final_sound ended;
       from_host = final_told;
       counted = final_counted;
       serial = λ t not_five none. final_serial (legal_before legal) rest t none;
@@ -315,6 +319,7 @@ session-none ht kt st greeting was journal none = subst (λ (es : List Event). I
   unrefused = λ e. absurd cc;
   puts = λ t path. refl;
   sound = tt;
+  right = λ n o ended. absurd (let h : None ≡ Some o = ended in let f : ⊥ = cc in f);
   from_host = λ t. tt;
   counted = inl (omega arith);
   serial = λ t not_five. absurd (not_five refl);

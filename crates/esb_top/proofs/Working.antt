@@ -14,7 +14,7 @@ use Rattle.esb_ask.specs.declared.product.Product.{Product}
 use Rattle.esb_ask.specs.declared.outcome.Outcome.TheVariants as outcomes
 use Rattle.esb_ask.specs.Tasks.{same_task, product_fits}
 use Rattle.esb_ask.proofs.SameTask.{same_task-refl}
-use Rattle.esb_ask.specs.Table.{same_question}
+use Rattle.esb_ask.specs.Table.{fits, kept, same_question}
 use Rattle.esb_core.specs.declared.event.Job.{Job}
 use Rattle.esb_core.specs.declared.event.Job.TheVariants as job
 use Rattle.esb_core.specs.declared.event.Role.TheVariants as role
@@ -23,8 +23,9 @@ use Rattle.esb_ask.proofs.Tables.{same-refl}
 use Rattle.esb_core.specs.declared.event.Event.{Event}
 use Rattle.esb_core.specs.declared.event.Event.TheVariants as event
 use Rattle.esb_core.specs.State.{Building, State, build_at, no_build}
-use Rattle.esb_core.specs.Moves.{keep, kept_unless}
-use Rattle.esb_core.specs.Steps.{after, moved, all_moved, moves, answered, is_claim, task_claimed, link_claimed}
+use Rattle.esb_core.specs.Sizes.{is_overfull, too_large}
+use Rattle.esb_core.specs.Moves.{added_or, closed, keep, kept_unless}
+use Rattle.esb_core.specs.Steps.{after, moved, all_moved, moves, standing, answered, ended_by, is_claim, task_claimed, link_claimed}
 use Rattle.esb_core.specs.Allowed.{allowed, has_task, has_begun, has_claim, is_linker, first_job, first_from, job_of, names_job, same_job}
 use Rattle.esb_core.specs.History.{Begun, build, table, is_legal, moves_in, replay}
 use Rattle.esb_core.proofs.Readings.{begun_of, build-read}
@@ -32,14 +33,15 @@ use Rattle.esb_core.proofs.Laws.{reads-legal}
 use Rattle.esb_scan.specs.declared.run.Run.TheVariants as runs
 use Rattle.esb_scan.specs.Run.{run, trail}
 use Rattle.esb_scan.proofs.Runs.{asks_new, run_fits}
-use Rattle.esb_sound.specs.Serial.{IsInTurn, doing}
+use Rattle.esb_sound.specs.Serial.{IsInTurn, doing, doing_after, in_hand}
+use Rattle.esb_sound.proofs.Doing.{doing-hand}
 use Rattle.esb_sound.specs.Sound.{IsLinked}
 use Rattle.esb_sound.specs.Told.{is_fault}
 use Rattle.esb_top.specs.Entries.{Entries, AddedWithin}
-use Rattle.esb_top.specs.Work.{Worked, AtWork, AtLink, Answered, Linked}
+use Rattle.esb_top.specs.Work.{Worked, AtWork, AtLink, Answered, IsGoing, Linked}
 use Rattle.esb_scan.specs.Complete.{IsComplete}
 use Rattle.esb_top.specs.Turn.{IsFree}
-use Rattle.esb_top.proofs.InOrder.{claim-in_turn, deliver-in_turn, doing-is, record-in_turn, refusal-in_turn, settle-in_turn}
+use Rattle.esb_top.proofs.InOrder.{claim-in_turn, deliver-in_turn, going-by, over-by, record-in_turn, refusal-in_turn, settle-in_turn}
 use Rattle.esb_top.proofs.Histories.{IsOfWork, all_moved-ended, replay-push, worked-push, worked-trans}
 
 -- ---- the direct answers about a legal list
@@ -55,24 +57,47 @@ table-is es n legal = sym ((reads-legal es legal).tables n)
 
 -- ---- an answer
 
--- an answer to a build that isn't settled is kept
-record-after : (s : State) (n : ℕ) (q : Question) (a : Answer) → (build_at s.builds n).outcome ≡ None → after s (event.Record 0 n q a) ≡ moved s (keep n q a)
-record-after s n q a none = ap (λ (o : Option Outcome). all_moved s (kept_unless n q a o)) none
+-- an answer to a build that isn't settled is kept, unless the build would be too large with it
+record-after : (s : State) (n : ℕ) (q : Question) (a : Answer) → (build_at s.builds n).outcome ≡ None → is_overfull (kept (build_at s.builds n).table q a) ≡ false → after s (event.Record 0 n q a) ≡ moved s (keep n q a)
+record-after s n q a none small =
+    ap (λ (o : Option Outcome). all_moved s (kept_unless (standing s n) n q a o)) none
+    ∙ ap (λ (large : Bool). all_moved s (added_or (standing s n) n large (keep n q a ∷ []))) small
 
-pub record-leaves : (s : State) (n : ℕ) (q : Question) (a : Answer) → n < length s.builds → (build_at s.builds n).outcome ≡ None
+record-leaves : (s : State) (n : ℕ) (q : Question) (a : Answer) → n < length s.builds → (build_at s.builds n).outcome ≡ None → is_overfull (kept (build_at s.builds n).table q a) ≡ false
     → build_at (after s (event.Record 0 n q a)).builds n ≡ answered (build_at s.builds n) q a
-record-leaves s n q a lt none = ap (λ (u : State). build_at u.builds n) (record-after s n q a none) ∙ get_or-set_same s.builds n (answered (build_at s.builds n) q a) no_build lt
+record-leaves s n q a lt none small = ap (λ (u : State). build_at u.builds n) (record-after s n q a none small) ∙ get_or-set_same s.builds n (answered (build_at s.builds n) q a) no_build lt
 
-pub at-record : (s : State) (n : ℕ) (t : Task) (q : Question) (a : Answer) → AtWork s n t → AtWork (after s (event.Record 0 n q a)) n t
-at-record s n t q a at =
-    let same = record-leaves s n q a at.begun at.unsettled in
+-- the build ends where it would be too large
+record-ends : (s : State) (n : ℕ) (q : Question) (a : Answer) → n < length s.builds → (build_at s.builds n).outcome ≡ None → is_overfull (kept (build_at s.builds n).table q a) ≡ true
+    → (build_at (after s (event.Record 0 n q a)).builds n).outcome ≡ Some too_large
+record-ends s n q a lt none over =
+    ap (λ (o : Option Outcome). (build_at (all_moved s (kept_unless (standing s n) n q a o)).builds n).outcome) none
+    ∙ ap (λ (large : Bool). (build_at (all_moved s (added_or (standing s n) n large (keep n q a ∷ []))).builds n).outcome) over
+    ∙ closes (build_at s.builds n).options.context
+  where
+    there : (build_at (slice_set s.builds n (ended_by (build_at s.builds n) too_large)) n).outcome ≡ Some too_large
+    there = ap (λ (b : Building). b.outcome) (get_or-set_same s.builds n (ended_by (build_at s.builds n) too_large) no_build lt)
+
+    closes : (stays : Bool) → (build_at (all_moved s (closed (build_at s.builds n).key stays n too_large)).builds n).outcome ≡ Some too_large
+    closes true = there
+    closes false = there
+
+at-record : (s : State) (n : ℕ) (t : Task) (q : Question) (a : Answer) → AtWork s n t → is_overfull (kept (build_at s.builds n).table q a) ≡ false → AtWork (after s (event.Record 0 n q a)) n t
+at-record s n t q a at small =
+    let same = record-leaves s n q a at.begun at.unsettled small in
     record {
       begun =
-          let long : length (after s (event.Record 0 n q a)).builds ≡ length s.builds = ap (λ (u : State). length u.builds) (record-after s n q a at.unsettled) ∙ length-set s.builds n (answered (build_at s.builds n) q a) in
+          let long : length (after s (event.Record 0 n q a)).builds ≡ length s.builds = ap (λ (u : State). length u.builds) (record-after s n q a at.unsettled small) ∙ length-set s.builds n (answered (build_at s.builds n) q a) in
           omega (arith, at.begun, long);
       unsettled = ap (λ (b : Building). b.outcome) same ∙ at.unsettled;
       claimed = ap (λ (b : Building). has_task b 0 t) same ∙ at.claimed;
     }
+
+both : (a b : Bool) → a ≡ true → b ≡ true → (a && b) ≡ true
+both a b e f = rw (e, f) refl
+
+begun-is : (s : State) (n : ℕ) → n < length s.builds → has_begun s n ≡ true
+begun-is s n lt = lt-ltb n (length s.builds) lt
 
 record-work : (n : ℕ) (q : Question) (a : Answer) → IsOfWork (event.Record 0 n q a)
 record-work n q a = record { none_arrived = refl; none_sent = λ g. refl; goes_on = λ s. all_moved-ended s (moves s (event.Record 0 n q a)) }
@@ -85,37 +110,46 @@ fault-is answers.TooBig e = absurd (false≢true e)
 fault-is answers.Fault e = refl
 fault-is (answers.Bytes contents) e = absurd (false≢true e)
 
--- what an answer to an asked question leaves
-pub record Asks (tells : Type 0) (world : List Folder) (fo fn : ℕ) (old new : Entries) (n : ℕ) (t : Task) (options : Options) : Type 0 where
-  pub at : AtWork (replay new.events) n t
-  pub doing_still : doing new.events ≡ Some (job.Scan n t)
-  pub same_options : (build_at (replay new.events).builds n).options ≡ options
+-- what an answer to an asked question leaves, whether the build is too large with it or not
+pub record Asks (tells : Type 0) (world : List Folder) (fo fn : ℕ) (old new : Entries) (n : ℕ) (t : Task) (options : Options) (large : Bool) : Type 0 where
+  pub going : large ≡ false → IsGoing new.events n t options
+  pub over : large ≡ true → IsFree new.events
   pub worked : Worked tells world fo fn old.events new.events
   pub room : old.promised ≤ new.promised
 
-pub asked-step : (tells : Type 0) (world : List Folder) (fo fn : ℕ) (old new : Entries) (n : ℕ) (q : Question) (t : Task) (options : Options) → is_legal old.events ≡ true → AtWork (replay old.events) n t
-    → options ≡ (build_at (replay old.events).builds n).options → run options (build_at (replay old.events).builds n).table t ≡ runs.Asks q → doing old.events ≡ Some (job.Scan n t)
-    → Answered tells world fo fn old new n q → fo ≤ fn → Asks tells world fo fn old new n t options
-asked-step tells world fo fn old new n q t options legal at same asks in_hand got le =
+pub asked-step : (tells : Type 0) (world : List Folder) (fo fn : ℕ) (old new : Entries) (n : ℕ) (q : Question) (t : Task) (options : Options) (large : Bool) → is_legal old.events ≡ true → IsGoing old.events n t options
+    → run options (build_at (replay old.events).builds n).table t ≡ runs.Asks q → Answered tells world fo fn old new n q large → fo ≤ fn → Asks tells world fo fn old new n t options large
+asked-step tells world fo fn old new n q t options large legal go asks got le =
     let s = replay old.events in
-    let pushed : replay new.events ≡ after s (event.Record 0 n q got.answer) = ap replay got.added.events ∙ replay-push old.events (event.Record 0 n q got.answer) in
-    let leaves = record-leaves s n q got.answer at.begun at.unsettled in
+    let e = event.Record 0 n q got.answer in
+    let at = go.at in
+    let pushed : replay new.events ≡ after s e = ap replay got.added.events ∙ replay-push old.events e in
+    let may : allowed s e ≡ true = both (has_begun s n) (fits q got.answer) (begun-is s n at.begun) got.fitting in
+    let hand : doing_after (in_hand old.events) e ≡ Some (job.Scan n t) = doing-hand old.events (job.Scan n t) go.in_hand in
     let asks_now : run (build old.events n).options (table old.events n) t ≡ runs.Asks q =
-    ap (λ (o : Options). run o (table old.events n) t) (options-are old.events n legal ∙ sym same) ∙ ap (λ (tb : List (Question × Answer)). run options tb t) (table-is old.events n legal) ∙ asks in
+    ap (λ (o : Options). run o (table old.events n) t) (options-are old.events n legal ∙ go.same_options) ∙ ap (λ (tb : List (Question × Answer)). run options tb t) (table-is old.events n legal) ∙ asks in
     let trail_is : trail (build old.events n).options (table old.events n) t ≡ q ∷ [] =
-    ap (λ (o : Options). trail o (table old.events n) t) (options-are old.events n legal ∙ sym same) ∙ ap (λ (tb : List (Question × Answer)). trail options tb t) (table-is old.events n legal)
+    ap (λ (o : Options). trail o (table old.events n) t) (options-are old.events n legal ∙ go.same_options) ∙ ap (λ (tb : List (Question × Answer)). trail options tb t) (table-is old.events n legal)
     ∙ (asks_new options (build_at s.builds n).table t q asks).is_trail in
     record {
-      at = subst (λ (u : State). AtWork u n t) (sym pushed) (at-record s n t q got.answer at);
-      doing_still = doing-is old.events new.events (event.Record 0 n q got.answer) got.added.events ∙ in_hand;
-      same_options = ap (λ (u : State). (build_at u.builds n).options) pushed ∙ ap (λ (b : Building). b.options) leaves ∙ sym same;
-      worked = worked-push tells world fo fn old.events new.events (event.Record 0 n q got.answer) got.added.events (record-work n q got.answer)
+      going = λ small.
+          let fit = sym got.size ∙ small in
+          let there : AtWork (replay new.events) n t = subst (λ (u : State). AtWork u n t) (sym pushed) (at-record s n t q got.answer at fit) in
+          record {
+            in_hand = going-by old.events new.events e got.added.events legal may (job.Scan n t) hand there.unsettled;
+            at = there;
+            same_options = ap (λ (u : State). (build_at u.builds n).options) pushed ∙ ap (λ (b : Building). b.options) (record-leaves s n q got.answer at.begun at.unsettled fit) ∙ go.same_options;
+          };
+      over = λ much.
+          over-by old.events new.events e got.added.events legal may (job.Scan n t) too_large hand
+          (ap (λ (u : State). (build_at u.builds n).outcome) pushed ∙ record-ends s n q got.answer at.begun at.unsettled (sym got.size ∙ much));
+      worked = worked-push tells world fo fn old.events new.events e got.added.events (record-work n q got.answer)
           (λ h. record {
             task = t;
             claimed = at.claimed;
             on_trail = ap (λ (qs : List Question). list_any (same_question q) qs) trail_is ∙ ap (λ b. b || false) (same-refl q);
           })
-          got.from_host (record-in_turn tells world old.events n t q got.answer in_hand asks_now got.from_host) (λ e. got.fault (fault-is got.answer e)) le;
+          got.from_host (record-in_turn tells world old.events n t q got.answer go.in_hand asks_now got.from_host) (λ e. got.fault (fault-is got.answer e)) le;
       room = got.added.room;
     }
 
@@ -127,7 +161,7 @@ pub delivered-step : (tells : Type 0) (world : List Folder) (f : ℕ) (old : Ent
 delivered-step tells world f old new n t p options legal same given in_hand is =
     let done_now : run (build old.events n).options (table old.events n) t ≡ runs.Done p =
     ap (λ (o : Options). run o (table old.events n) t) (options-are old.events n legal ∙ same) ∙ ap (λ (tb : List (Question × Answer)). run options tb t) (table-is old.events n legal) ∙ given in
-    worked-push tells world f f old.events new (event.Deliver 0 n t p) is (record { none_arrived = refl; none_sent = λ g. refl; goes_on = λ s. refl })
+    worked-push tells world f f old.events new (event.Deliver 0 n t p) is (record { none_arrived = refl; none_sent = λ g. refl; goes_on = λ s. all_moved-ended s (moves s (event.Deliver 0 n t p)) })
     (λ h. done_now) (λ h. tt) (deliver-in_turn tells world old.events n t p in_hand done_now) (λ e. absurd (false≢true e)) (omega arith)
 
 pub settled-step : (tells : Type 0) (world : List Folder) (f : ℕ) (old : Entries) (new : List Event) (n : ℕ) (o : Outcome) → is_legal old.events ≡ true
@@ -143,12 +177,6 @@ settled-step tells world f old new n o legal right turn is =
 pub given_up-step : (tells : Type 0) (world : List Folder) (f : ℕ) (old : Entries) (new : List Event) (n : ℕ) (t : Task) → is_legal old.events ≡ true → doing old.events ≡ Some (job.Scan n t) → new ≡ old.events ++ event.Settle 0 n outcomes.Memory ∷ []
     → Worked tells world f f old.events new
 given_up-step tells world f old new n t legal in_hand is = settled-step tells world f old new n outcomes.Memory legal tt (λ r. refusal-in_turn tells world old.events n (inr (t, in_hand))) is
-
-both : (a b : Bool) → a ≡ true → b ≡ true → (a && b) ≡ true
-both a b e f = rw (e, f) refl
-
-begun-is : (s : State) (n : ℕ) → n < length s.builds → has_begun s n ≡ true
-begun-is s n lt = lt-ltb n (length s.builds) lt
 
 pub may-deliver : (s : State) (n : ℕ) (t : Task) (p : Product) (options : Options) (answers : List (Question × Answer)) → AtWork s n t → run options answers t ≡ runs.Done p → allowed s (event.Deliver 0 n t p) ≡ true
 may-deliver s n t p options answers at given =
@@ -263,7 +291,7 @@ pub linked-step : (tells : Type 0) (world : List Folder) (f : ℕ) (es : List Ev
     → Linked mid new n → Worked tells world f f es new.events
 linked-step tells world f es mid new n may is l =
     worked-trans tells world f f f es mid.events new.events (claimed-step tells world f es mid.events (job.Link n) may is)
-    (settled-step tells world f mid new.events n l.outcome l.legal l.right (settle-in_turn tells world mid.events n l.outcome (doing-is es mid.events (event.Claim (role.Worker 0) (job.Link n)) is)) l.added)
+    (settled-step tells world f mid new.events n l.outcome l.legal l.right (settle-in_turn tells world mid.events n l.outcome (going-by es mid.events (event.Claim (role.Worker 0) (job.Link n)) is may.legal (may-claim (replay es) (job.Link n) may.first) (job.Link n) refl (at-link es mid.events n is may.first).at.unsettled)) l.added)
 
 pub linked-by : (old new : Entries) (n : ℕ) (o : Outcome) → is_legal old.events ≡ true → IsLinked (build_at (replay old.events).builds n).options (build_at (replay old.events).builds n).table o
     → AddedWithin old new (event.Settle 0 n o) ⊎ AddedWithin old new (event.Settle 0 n outcomes.Memory) → Linked old new n

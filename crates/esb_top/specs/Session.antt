@@ -1,15 +1,17 @@
 -- What a session on one thread promises.
-use Rattle.std.specs.Prelude.{◌≡◌, ◌⊎◌, ℕ, nat_eq, ◌==◌, ◌<◌, ◌≤◌, length, IsSome, Bool, true, false, not, ◌||◌, List, [], ◌∷◌, ◌++◌, Result, Ok, Err}
+use Rattle.std.specs.Prelude.{◌≡◌, ◌⊎◌, ℕ, nat_eq, ◌==◌, ◌<◌, ◌≤◌, length, IsSome, Bool, true, false, not, ◌||◌, List, [], ◌∷◌, ◌++◌, Some, Result, Ok, Err}
 use Rattle.std.specs.List.{flat_map, list_any}
 use Rattle.esb_base.specs.Faults.{Rose}
 use Rattle.esb_base.specs.declared.memory.Memory.{Memory}
 use Rattle.esb_wire.specs.Spelling.{frame}
 use Rattle.esb_wire.specs.Stream.{BeginsWithNone, Counts}
 use Rattle.esb_wire.specs.Budget.{budget}
+use Rattle.esb_ask.specs.declared.outcome.Outcome.{Outcome}
 use Rattle.esb_core.specs.declared.event.Event.{Event}
 use Rattle.esb_core.specs.declared.event.Event.TheVariants as events
 use Rattle.esb_core.specs.History.{builds, is_legal, outcome, owed}
 use Rattle.esb_sound.specs.Sound.{Sound}
+use Rattle.esb_sound.specs.Ends.{EndsRight}
 use Rattle.esb_sound.specs.Sent.{arrivals, sent}
 use Rattle.esb_sound.specs.Serial.{IsSerial, is_refused, lapses}
 use Rattle.esb_sound.specs.Told.{AreTold, RoseBy, faults}
@@ -78,6 +80,8 @@ pub record IsSession (host_tells sink_tells source_tells : Type 0) (greeting : L
   pub unrefused : status ≡ 0 → list_any is_refused journal ≡ false
   pub puts : host_tells → (path : List ℕ) → now.puts path ≡ was.puts path
   pub sound : Sound journal
+  -- each build ended by the link of its own answers, or for want of memory, by a cancel, or because it would be too large
+  pub right : (n : ℕ) (o : Outcome) → outcome journal n ≡ Some o → EndsRight journal n o
   pub from_host : host_tells → AreTold was.world journal
   pub counted : RoseBy (faults journal) was.host_faults now.host_faults
   -- without a fault of the host and want of memory, it is the one history that these packets and folders have

@@ -1,10 +1,13 @@
 //! The machine of a session, with the journal of its events.
-ghost use Rattle.std.specs.Prelude.{◌≡◌, ◌⊎◌, ◌+◌, ◌<◌, ◌≤◌, true, [], ◌∷◌, ◌++◌, length, slice_get, IfOk, OnOk, OnErr, MatchOption, IsSome};
+ghost use Rattle.std.specs.Prelude.{◌≡◌, ◌⊎◌, ◌+◌, ◌<◌, ◌≤◌, Bool, true, None, [], ◌∷◌, ◌++◌, length, slice_get, IfOk, OnOk, OnErr, MatchOption, IsSome};
 ghost use Rattle.std.specs.List.{list_any};
+ghost use Rattle.esb_ask.specs.Table.{kept};
 ghost use Rattle.esb_core.specs.declared.event.Event.{Event};
 ghost use Rattle.esb_core.specs.Allowed.{allowed, first_job};
 ghost use Rattle.esb_core.specs.History.{is_legal, replay};
+ghost use Rattle.esb_core.specs.Sizes.{is_overfull};
 ghost use Rattle.esb_core.specs.State.{build_at};
+ghost use Rattle.esb_core.specs.Steps.{told_kept};
 ghost use Rattle.esb_sound.specs.Serial.{is_refused};
 
 use esb_ask::{Answer, Outcome, Product, Question, Table, Task};
@@ -41,6 +44,13 @@ impl Model for History {
     ghost view = { λ h. record { events = h.events.items; promised = h.promised } };
 
     ghost invariant = { λ h. Agrees h.machine h.events.items (vec_len h.events + h.promised) (vec_capacity h.events) };
+}
+
+/// Whether a build was settled before, or by the answer that was told.
+fn is_stale(told: &Told) -> bool
+    ensures { (first : Answer) (large : Bool) → told.now ≡ told_kept first large → result ≡ large }
+{
+    matches!(told, Told::Stale)
 }
 
 impl History {
@@ -144,15 +154,18 @@ impl History {
         Ok(())
     }
 
-    /// A build gets an answer of its host.
+    /// A build that isn't settled gets an answer of its host. It tells whether the build would be too large with it, and is
+    /// settled so.
     pub(crate) fn record(
         &mut self,
         build: u32,
         question: &Question,
         answer: Answer,
-    ) -> Result<(), Memory>
-        requires { allowed (replay self.old.events) (Event.Record 0 build question.now answer) ≡ true }
+    ) -> Result<bool, Memory>
+        requires may { allowed (replay self.old.events) (Event.Record 0 build question.now answer) ≡ true }
+        requires unsettled { (build_at (replay self.old.events).builds build).outcome ≡ None }
         ensures ok { OnOk result (Added self.old self.new (Event.Record 0 build question.now answer)) }
+        ensures large { IfOk result (λ large. large ≡ is_overfull (kept (build_at (replay self.old.events).builds build).table question.now answer)) }
         ensures err { OnErr result (Kept self.old self.new) }
     {
         self.promise(1)?;
@@ -168,10 +181,10 @@ impl History {
             question: question.share()?,
             answer,
         };
-        let _told = self.machine.step(made)?;
+        let told = self.machine.step(made)?;
         self.events.push_reserved(entry);
         self.promised -= 1;
-        Ok(())
+        Ok(is_stale(&told))
     }
 
     /// A claimed task is done, in the room that its claim made.

@@ -1,5 +1,5 @@
 //! The work of the one worker on the builds.
-ghost use Rattle.std.specs.Prelude.{◌≡◌, ◌⊎◌, ℕ, ◌+◌, ◌<◌, ◌≤◌, true, Some, [], ◌∷◌, ◌++◌, List as Listed, length, IfOk, OnOk, OnErr};
+ghost use Rattle.std.specs.Prelude.{◌≡◌, ◌⊎◌, ℕ, ◌+◌, ◌<◌, ◌≤◌, true, None, Some, [], ◌∷◌, ◌++◌, List as Listed, length, IfOk, IfSome, OnOk, OnErr};
 ghost use Rattle.esb_base.specs.Faults.{Rose};
 ghost use Rattle.esb_ask.specs.Table.{fits};
 ghost use Rattle.esb_core.specs.Allowed.{first_job};
@@ -14,7 +14,7 @@ ghost use Rattle.esb_sound.specs.Sound.{IsLinked, Sound};
 ghost use Rattle.esb_sound.specs.Told.{told};
 ghost use Rattle.esb_top.specs.Entries.{Kept};
 ghost use Rattle.esb_top.specs.Turn.{IsFree};
-ghost use Rattle.esb_top.specs.Work.{Answered, AtLink, AtWork, Linked, Worked};
+ghost use Rattle.esb_top.specs.Work.{Answered, AtLink, AtWork, IsGoing, Linked, Worked};
 
 use crate::history::History;
 use esb_ask::{Answer, Outcome, Product, Question, Table, Task};
@@ -53,15 +53,17 @@ fn ask<H: Host>(host: &mut H, turn: u32, question: &Question) -> Result<Answer, 
     }
 }
 
-/// Asks the host a question of a build, and records the answer.
+/// Asks the host a question of a build that isn't settled, and records the answer. It tells whether the build would be too large
+/// with it, and is settled so.
 fn answer<H: Host>(
     history: &mut History,
     host: &mut H,
     build: u32,
     question: &Question,
-) -> Result<(), Memory>
-    requires { build < length (replay history.old.events).builds }
-    ensures ok { OnOk result (Answered H.tells (H.world host.old) (H.faults host.old) (H.faults host.new) history.old history.new build question.now) }
+) -> Result<bool, Memory>
+    requires begun { build < length (replay history.old.events).builds }
+    requires unsettled { (build_at (replay history.old.events).builds build).outcome ≡ None }
+    ensures ok { IfOk result (λ large. Answered H.tells (H.world host.old) (H.faults host.old) (H.faults host.new) history.old history.new build question.now large) }
     ensures err { OnErr result (Kept history.old history.new) }
     ensures world { H.tells → H.world host.new ≡ H.world host.old }
     ensures puts { H.tells → (path : Listed ℕ) → H.put_at host.new path ≡ H.put_at host.old path }
@@ -71,7 +73,8 @@ fn answer<H: Host>(
     history.record(build, question, answer)
 }
 
-/// The product of a claimed task. It asks the host what the build has no answer to, one question at most.
+/// The product of a claimed task, unless the build would be too large with the answer. It asks the host what the build has no
+/// answer to, one question at most.
 fn product_of<H: Host>(
     alloc: Global,
     history: &mut History,
@@ -79,14 +82,12 @@ fn product_of<H: Host>(
     build: u32,
     task: &Task,
     options: &Options,
-) -> Result<Product, Memory>
-    requires at { AtWork (replay history.old.events) build task.now }
-    requires options { options.now ≡ (build_at (replay history.old.events).builds build).options }
-    requires in_hand { doing history.old.events ≡ Some (Job.Scan build task.now) }
-    ensures product { IfOk result (λ product. run options.now (build_at (replay history.new.events).builds build).table task.now ≡ runs.Done product) }
-    ensures options { (build_at (replay history.new.events).builds build).options ≡ options.now }
-    ensures in_hand { doing history.new.events ≡ Some (Job.Scan build task.now) }
-    ensures at { AtWork (replay history.new.events) build task.now }
+) -> Result<Option<Product>, Memory>
+    requires going { IsGoing history.old.events build task.now options.now }
+    ensures over { IfOk result (λ product. product ≡ None → IsFree history.new.events) }
+    ensures going { IfOk result (λ product. IfSome product (λ p. IsGoing history.new.events build task.now options.now)) }
+    ensures product { IfOk result (λ product. IfSome product (λ p. run options.now (build_at (replay history.new.events).builds build).table task.now ≡ runs.Done p)) }
+    ensures err { OnErr result (IsGoing history.new.events build task.now options.now) }
     ensures worked { Worked H.tells (H.world host.old) (H.faults host.old) (H.faults host.new) history.old.events history.new.events }
     ensures room { history.old.promised ≤ history.new.promised }
     ensures world { H.tells → H.world host.new ≡ H.world host.old }
@@ -95,19 +96,21 @@ fn product_of<H: Host>(
 {
     history.is_legal();
     match run_task(alloc, options, history.table(build), task) {
-        Run::Done(product) => Ok(product),
+        Run::Done(product) => Ok(Some(product)),
         Run::Memory => Err(Memory),
         Run::Asks(question) => {
-            answer(history, host, build, &question)?;
+            if answer(history, host, build, &question)? {
+                return Ok(None);
+            }
             match run_task(alloc, options, history.table(build), task) {
-                Run::Done(product) => Ok(product),
+                Run::Done(product) => Ok(Some(product)),
                 Run::Asks(_) | Run::Memory => Err(Memory),
             }
         }
     }
 }
 
-/// Does a claimed task, and delivers its product.
+/// Does a claimed task, and delivers its product, unless the build ends before.
 fn try_scan<H: Host>(
     alloc: Global,
     history: &mut History,
@@ -130,6 +133,9 @@ fn try_scan<H: Host>(
 {
     let options = history.view(build)?.options;
     let product = product_of(alloc, history, host, build, task, options.get())?;
+    let Some(product) = product else {
+        return Ok(());
+    };
     history.is_legal();
     history.deliver(build, task, product)
 }

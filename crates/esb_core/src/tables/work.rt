@@ -1,17 +1,65 @@
 //! The work on builds.
-ghost use Rattle.std.specs.Prelude.{◌≡◌, ◌+◌, ◌<◌, ◌≤◌, ℕ, true, length, None, IfOk, OnOk, OnErr};
-ghost use Rattle.esb_ask.specs.Table.{fits};
+ghost use Rattle.std.specs.Prelude.{◌≡◌, ◌+◌, ◌<◌, ◌≤◌, ℕ, true, false, length, None, IfOk, OnOk, OnErr};
+ghost use Rattle.esb_ask.specs.Table.{fits, kept};
 ghost use Rattle.esb_core.specs.declared.event.Event.TheVariants as events;
 ghost use Rattle.esb_core.specs.Kept.{loads, state_of, IsKept};
-ghost use Rattle.esb_core.specs.Moves.{close, closed, keep, kept_unless};
+ghost use Rattle.esb_core.specs.Moves.{close, closed, closed_unless, keep, kept_unless, opened_unless, opens};
 ghost use Rattle.esb_core.specs.Order.{IsActive};
+ghost use Rattle.esb_core.specs.Sizes.{has_too_many, is_overfull, named, named_by, opened, too_large, too_large_message};
 ghost use Rattle.esb_core.specs.State.{build_at};
-ghost use Rattle.esb_core.specs.Steps.{after, all_moved, changed, delivered, link_claimed, moved, released, task_claimed, told_record, told_stale};
+ghost use Rattle.esb_core.specs.Steps.{after, all_moved, changed, link_claimed, moved, released, standing, task_claimed, told_deliver, told_if, told_record, told_stale, unclaimed};
 
 use crate::event::Told;
 use crate::tables::Tables;
-use esb_ask::{Answer, Outcome, Product, Question, Task};
-use esb_base::Memory;
+use esb_ask::{Answer, Message, Outcome, Product, Question, Resolved, Task};
+use esb_base::{List, Memory, Shared, Text};
+use std::alloc::Global;
+
+/// The task that a resolved entry or import names.
+fn named_by(resolved: &Resolved) -> Result<Option<Task>, Memory>
+    ensures { IfOk result (λ t. t ≡ named_by resolved.now) }
+{
+    match resolved {
+        Resolved::To { name, marked: _ } => Ok(Some(Task::Load(name.share()?))),
+        Resolved::External => Ok(None),
+        Resolved::Left => Ok(None),
+        Resolved::Refused(_) => Ok(None),
+    }
+}
+
+/// The task that a product names.
+fn named(product: &Product) -> Result<Option<Task>, Memory>
+    ensures { IfOk result (λ t. t ≡ named product.now) }
+{
+    match product {
+        Product::Entry(resolved) => named_by(resolved),
+        Product::Load(_) => Ok(None),
+    }
+}
+
+/// The one message of a build that would be too large.
+fn too_large_message(alloc: Global) -> Result<Message, Memory>
+    ensures { IfOk result (λ message. message ≡ too_large_message) }
+{
+    let text = Text::of(alloc, "Build is too large")?;
+    let file = Text::of(alloc, "")?;
+    Ok(Message {
+        text,
+        file,
+        line: 0,
+        column: 0,
+        length: 0,
+    })
+}
+
+/// How a build ends that would be too large.
+fn too_large(alloc: Global) -> Result<Outcome, Memory>
+    ensures { IfOk result (λ outcome. outcome ≡ too_large) }
+{
+    let mut messages = List::new(alloc);
+    messages.push(too_large_message(alloc)?)?;
+    Ok(Outcome::Errors(Shared::new(alloc, messages)?))
+}
 
 impl Tables {
     /// A worker claims the first open task of a build. It takes no memory.
@@ -40,7 +88,8 @@ impl Tables {
         requires kept { IsKept self.old }
         requires begun { build < length self.old.builds.items }
         requires fits { fits question answer ≡ true }
-        ensures told { IfOk result (λ t. t ≡ told_record (build_at self.old.builds.items build) question answer None) }
+        requires room { is_overfull (kept (build_at self.old.builds.items build).table question answer) ≡ false }
+        ensures told { IfOk result (λ t. t ≡ told_record (build_at self.old.builds.items build).table question answer None) }
         ensures ok { OnOk result (state_of self.new ≡ moved (state_of self.old) (keep build question answer)) }
         ensures err { OnErr result (state_of self.new ≡ state_of self.old) }
         ensures kept { IsKept self.new }
@@ -48,7 +97,7 @@ impl Tables {
         self.builds[build as usize].record(question, answer)
     }
 
-    /// A build gets an answer, unless it is settled.
+    /// A build gets an answer, unless it is settled. It is settled now if it would be too large with it.
     pub(crate) fn record(
         &mut self,
         build: u32,
@@ -58,18 +107,68 @@ impl Tables {
         requires kept { IsKept self.old }
         requires begun { build < length self.old.builds.items }
         requires fits { fits question answer ≡ true }
-        ensures told { IfOk result (λ t. t ≡ told_record (build_at self.old.builds.items build) question answer (build_at self.old.builds.items build).outcome) }
-        ensures ok { OnOk result (state_of self.new ≡ all_moved (state_of self.old) (kept_unless build question answer (build_at self.old.builds.items build).outcome)) }
+        ensures told { IfOk result (λ t. t ≡ told_record (build_at self.old.builds.items build).table question answer (build_at self.old.builds.items build).outcome) }
+        ensures ok { OnOk result (state_of self.new ≡ all_moved (state_of self.old) (kept_unless (standing (state_of self.old) build) build question answer (build_at self.old.builds.items build).outcome)) }
         ensures err { OnErr result (state_of self.new ≡ state_of self.old) }
         ensures kept { IsKept self.new }
     {
         if self.builds[build as usize].is_settled() {
             return Ok(Told::Stale);
         }
+        if self.builds[build as usize].overfill(&question, &answer) {
+            let outcome = too_large(self.alloc)?;
+            self.end_active(build, outcome);
+            return Ok(Told::Stale);
+        }
         self.keep(build, question, answer)
     }
 
-    /// A worker has done a task of a build.
+    /// A build gets a task that is new, if one is named.
+    fn open(&mut self, build: u32, named: Option<Task>) -> Result<(), Memory>
+        requires kept { IsKept self.old }
+        requires begun { build < length self.old.builds.items }
+        requires room { has_too_many (opened (build_at self.old.builds.items build).tasks named) ≡ false }
+        ensures ok { OnOk result (state_of self.new ≡ all_moved (state_of self.old) (opens build named)) }
+        ensures err { OnErr result (state_of self.new ≡ state_of self.old) }
+        ensures kept { IsKept self.new }
+    {
+        match named {
+            None => Ok(()),
+            Some(task) => self.builds[build as usize].open(task),
+        }
+    }
+
+    /// A worker's claim of a task ends. It takes no memory.
+    fn unclaim(&mut self, worker: u32, build: u32, task: &Task)
+        requires kept { IsKept self.old }
+        requires begun { build < length self.old.builds.items }
+        ensures state { state_of self.new ≡ changed (state_of self.old) build (unclaimed (build_at self.old.builds.items build) worker task.now) }
+        ensures kept { IsKept self.new }
+    {
+        self.builds[build as usize].unclaim(worker, task);
+    }
+
+    /// What a product names is opened. The build is settled now if it would be too large with it.
+    fn open_named(&mut self, build: u32, named: Option<Task>) -> Result<Told, Memory>
+        requires kept { IsKept self.old }
+        requires begun { build < length self.old.builds.items }
+        requires unsettled { (build_at self.old.builds.items build).outcome ≡ None }
+        ensures told { IfOk result (λ t. t ≡ told_if (has_too_many (opened (build_at self.old.builds.items build).tasks named))) }
+        ensures ok { OnOk result (state_of self.new ≡ all_moved (state_of self.old) (opened_unless (standing (state_of self.old) build) build named None)) }
+        ensures err { OnErr result (state_of self.new ≡ state_of self.old) }
+        ensures kept { IsKept self.new }
+        ensures begun { build < length self.new.builds.items }
+    {
+        if self.builds[build as usize].overopen(&named) {
+            let outcome = too_large(self.alloc)?;
+            self.end_active(build, outcome);
+            return Ok(Told::Stale);
+        }
+        self.open(build, named)?;
+        Ok(Told::Done)
+    }
+
+    /// A worker has done a task of a build. What its product names is opened, unless the build is settled.
     pub(crate) fn deliver(
         &mut self,
         worker: u32,
@@ -79,12 +178,19 @@ impl Tables {
     ) -> Result<Told, Memory>
         requires kept { IsKept self.old }
         requires begun { build < length self.old.builds.items }
-        ensures told { IfOk result (λ t. t ≡ told_stale (build_at self.old.builds.items build).outcome) }
-        ensures ok { OnOk result (state_of self.new ≡ changed (state_of self.old) build (delivered (build_at self.old.builds.items build) worker task.now product.now (build_at self.old.builds.items build).outcome)) }
+        ensures told { IfOk result (λ t. t ≡ told_deliver (build_at self.old.builds.items build).tasks product.now (build_at self.old.builds.items build).outcome) }
+        ensures ok { OnOk result (state_of self.new ≡ after (state_of self.old) (events.Deliver worker build task.now product.now)) }
         ensures err { OnErr result (state_of self.new ≡ state_of self.old) }
         ensures kept { IsKept self.new }
     {
-        self.builds[build as usize].deliver(worker, task, product)
+        if self.builds[build as usize].is_settled() {
+            self.unclaim(worker, build, task);
+            return Ok(Told::Stale);
+        }
+        let named = named(product)?;
+        let told = self.open_named(build, named)?;
+        self.unclaim(worker, build, task);
+        Ok(told)
     }
 
     /// The active build of a context ends, and its results become owed. It takes no memory.
@@ -116,6 +222,20 @@ impl Tables {
         }
     }
 
+    /// A build that isn't settled ends, and its context is removed unless it stays. It takes no memory.
+    fn end_active(&mut self, build: u32, outcome: Outcome)
+        requires kept { IsKept self.old }
+        requires begun { build < length self.old.builds.items }
+        requires unsettled { (build_at self.old.builds.items build).outcome ≡ None }
+        ensures state { state_of self.new ≡ all_moved (state_of self.old) (closed_unless (standing (state_of self.old) build) build outcome None) }
+        ensures kept { IsKept self.new }
+        ensures begun { build < length self.new.builds.items }
+    {
+        let key = self.builds[build as usize].key();
+        let stays = self.builds[build as usize].options().get().context;
+        self.end_build(key, stays, build, outcome);
+    }
+
     /// A worker's claims in a build end. It takes no memory.
     fn release(&mut self, worker: u32, build: u32)
         requires kept { IsKept self.old }
@@ -138,9 +258,7 @@ impl Tables {
             self.release(worker, build);
             return Told::Stale;
         }
-        let key = self.builds[build as usize].key();
-        let stays = self.builds[build as usize].options().get().context;
-        self.end_build(key, stays, build, outcome);
+        self.end_active(build, outcome);
         self.release(worker, build);
         Told::Done
     }

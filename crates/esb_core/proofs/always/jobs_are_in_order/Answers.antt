@@ -1,5 +1,5 @@
 use Rattle.esb_core.proofs.Begins.{build-stays}
-use Rattle.esb_core.proofs.Tasks.{tasks-grow}
+use Rattle.esb_core.proofs.Tasks.{tasks-grow, tasks-named}
 use Rattle.esb_core.proofs.Tells.{closes-by}
 use Rattle.esb_core.proofs.Work.{told-job, told-closing, told-idle, tasks-differ}
 use Rattle.esb_core.proofs.always.jobs_are_in_order.Goals as goal
@@ -18,3 +18,6 @@ returns-clause-differ c = tasks-differ
 
 pub returns-clause-grow : goal.returns-clause-grow
 returns-clause-grow c = λ events more n begun. tasks-grow events more n (build-stays events more n begun)
+
+pub returns-clause-named : goal.returns-clause-named
+returns-clause-named c = tasks-named

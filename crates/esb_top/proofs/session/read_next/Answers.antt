@@ -1,7 +1,7 @@
-use Rattle.std.proofs.Common.{ap, length, List, ℕ, ◌+◌, inr, sym, ◌∙◌}
+use Rattle.std.proofs.Common.{refl, ap, length, List, ℕ, ◌+◌, inr, sym, ◌∙◌}
 use Rattle.esb_core.specs.declared.event.Event.{Event}
 use Rattle.esb_core.specs.declared.event.Event.TheVariants as events
-use Rattle.esb_top.proofs.InOrder.{arrive-in_turn, doing-is}
+use Rattle.esb_top.proofs.InOrder.{arrive-in_turn, free-by}
 use Rattle.esb_core.specs.History.{replay}
 use Rattle.esb_top.proofs.Proper.{arrival-is_allowed}
 use Rattle.std.specs.List.{flat_map}
@@ -26,7 +26,7 @@ returns-in_ok-arrive-in-Packet-clause-in_turn g c = λ world.
 
 pub returns-in_ok-arrive-in-Packet-clause-free : goal.returns-in_ok-arrive-in-Packet-clause-free
 returns-in_ok-arrive-in-Packet-clause-free g c =
-    doing-is c.args.history.now.events c.arrive.new.self.events (events.Arrive c.in-Packet.packet) c.in_ok-arrive-in-Packet.ensures.ok.events ∙ c.requires.rests.free
+    free-by c.args.history.now.events c.arrive.new.self.events (events.Arrive c.in-Packet.packet) c.in_ok-arrive-in-Packet.ensures.ok.events refl c.requires.rests.free
 
 pub returns-in_ok-arrive-in-Packet-clause-placed : goal.returns-in_ok-arrive-in-Packet-clause-placed
 returns-in_ok-arrive-in-Packet-clause-placed g c = λ before.

@@ -1,9 +1,10 @@
+use Rattle.std.proofs.Common.{refl}
 use Rattle.esb_core.specs.History.{replay}
 use Rattle.esb_core.specs.declared.event.Job.TheVariants as job
 use Rattle.esb_top.proofs.Histories.{worked-trans}
 use Rattle.esb_core.specs.declared.event.Event.TheVariants as event
 use Rattle.esb_core.specs.declared.event.Role.TheVariants as role
-use Rattle.esb_top.proofs.InOrder.{doing-is}
+use Rattle.esb_top.proofs.InOrder.{done-by, going-by}
 use Rattle.esb_top.proofs.Working.{at-link, at-scan, claimed-step, complete-after, link-job, linked-step, may-claim}
 use Rattle.esb_top.proofs.work.do_job.Goals as goal
 
@@ -37,7 +38,12 @@ returns-in-Link-clause-worked g c =
     (record { legal = c.is_legal.ensures; free = c.requires.free; none_owed = c.requires.none_owed; first = rw c.in-Link.is at c.requires.first }) (rw c.in-Link.is at c.in_ok-claim.ensures.ok.events) c.link_build.ensures
 
 pub scan-requires-clause-in_hand : goal.scan-requires-clause-in_hand
-scan-requires-clause-in_hand g c = doing-is c.args.history.now.events c.claim.new.self.events (event.Claim (role.Worker 0) (job.Scan c.in-Scan.build c.in-Scan.task)) (rw c.in-Scan.is at c.in_ok-claim.ensures.ok.events)
+scan-requires-clause-in_hand g c =
+    let is = rw c.in-Scan.is at c.in_ok-claim.ensures.ok.events in
+    let first = rw c.in-Scan.is at c.requires.first in
+    let j = job.Scan c.in-Scan.build c.in-Scan.task in
+    going-by c.args.history.now.events c.claim.new.self.events (event.Claim (role.Worker 0) j) is c.is_legal.ensures (may-claim (replay c.args.history.now.events) j first) j refl
+    (at-scan c.args.history.now.events c.claim.new.self.events c.in-Scan.build c.in-Scan.task is first).unsettled
 
 pub returns-in-Link-clause-free : goal.returns-in-Link-clause-free
-returns-in-Link-clause-free g c = doing-is c.claim.new.self.events c.link_build.new.history.events (event.Settle 0 c.in-Link.build c.link_build.ensures.outcome) c.link_build.ensures.added
+returns-in-Link-clause-free g c = done-by c.claim.new.self.events c.link_build.new.history.events (event.Settle 0 c.in-Link.build c.link_build.ensures.outcome) c.link_build.ensures.added refl

@@ -10,32 +10,21 @@ use Rattle.esb_core.specs.History.{is_legal, replay}
 use Rattle.esb_scan.specs.declared.run.Run.TheVariants as runs
 use Rattle.esb_scan.specs.Run.{run}
 use Rattle.esb_top.specs.Entries.{Entries, AddedWithin}
-use Rattle.esb_top.specs.Work.{Worked}
+use Rattle.esb_top.specs.Work.{IsGoing, Worked}
 use Rattle.esb_top.proofs.Histories.{worked-trans}
 use Rattle.esb_top.proofs.Working.{delivered-step}
 use Rattle.esb_top.proofs.work.try_scan.Goals as goal
-use Rattle.std.proofs.Common.{ℕ, Some}
-use Rattle.esb_core.specs.declared.event.Job.TheVariants as job
-use Rattle.esb_sound.specs.Serial.{doing}
-use Rattle.esb_top.specs.Turn.{IsFree}
-use Rattle.esb_top.proofs.InOrder.{doing-is}
+use Rattle.std.proofs.Common.{ℕ}
 
 -- the work up to a product, and its delivery, which may be refused
 and_delivered : (tells : Type 0) (world : List Folder) (a b : ℕ) (es : Entries) (mid new : Entries) (n : ℕ) (t : Task) (p : Product) (options : Options) (result : Result (Unit {0}) Memory) → Worked tells world a b es.events mid.events
-    → doing mid.events ≡ Some (job.Scan n t) → is_legal mid.events ≡ true → (build_at (replay mid.events).builds n).options ≡ options → run options (build_at (replay mid.events).builds n).table t ≡ runs.Done p
+    → is_legal mid.events ≡ true → IsGoing mid.events n t options → run options (build_at (replay mid.events).builds n).table t ≡ runs.Done p
     → OnOk result (AddedWithin mid new (event.Deliver 0 n t p)) → OnErr result (new ≡ mid) → Worked tells world a b es.events new.events
-and_delivered tells world a b es mid new n t p options (Ok u) w in_hand legal same given added kept =
-    worked-trans tells world a b b es.events mid.events new.events w (delivered-step tells world b mid new.events n t p options legal same given in_hand added.events)
-and_delivered tells world a b es mid new n t p options (Err f) w in_hand legal same given added kept = subst (λ (e : Entries). Worked tells world a b es.events e.events) (sym kept) w
+and_delivered tells world a b es mid new n t p options (Ok u) w legal go given added kept =
+    worked-trans tells world a b b es.events mid.events new.events w (delivered-step tells world b mid new.events n t p options legal go.same_options given go.in_hand added.events)
+and_delivered tells world a b es mid new n t p options (Err f) w legal go given added kept = subst (λ (e : Entries). Worked tells world a b es.events e.events) (sym kept) w
 
 pub returns-clause-worked : goal.returns-clause-worked
 returns-clause-worked g c =
     and_delivered g.H.Host.tells (g.H.Host.world c.args.host.now) (g.H.Host.faults c.args.host.now) (g.H.Host.faults c.product_of.new.host) c.args.history.now c.product_of.new.history c.deliver.new.self c.args.build c.args.task.now
-    c.in_ok-product.product c.get.result.now c.deliver.result c.in_ok-product.ensures.worked c.in_ok-product.ensures.in_hand c.is_legal.ensures c.in_ok-product.ensures.options c.in_ok-product.ensures.product c.deliver.ensures.ok c.deliver.ensures.err
-
-free-after : (mid new : Entries) (n : ℕ) (t : Task) (p : Product) (result : Result (Unit {0}) Memory) → OnOk result (AddedWithin mid new (event.Deliver 0 n t p)) → OnOk result (IsFree new.events)
-free-after mid new n t p (Ok u) added = doing-is mid.events new.events (event.Deliver 0 n t p) added.events
-free-after mid new n t p (Err f) added = tt
-
-pub returns-clause-free : goal.returns-clause-free
-returns-clause-free g c = free-after c.product_of.new.history c.deliver.new.self c.args.build c.args.task.now c.in_ok-product.product c.deliver.result c.deliver.ensures.ok
+    c.in-Some.product c.get.result.now c.deliver.result c.in_ok-product.ensures.worked c.is_legal.ensures (rw c.in-Some.is at c.in_ok-product.ensures.going) (rw c.in-Some.is at c.in_ok-product.ensures.product) c.deliver.ensures.ok c.deliver.ensures.err

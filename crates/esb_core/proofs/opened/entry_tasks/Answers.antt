@@ -2,7 +2,7 @@ use Rattle.std.proofs.Common.{◌≡◌, ℕ, suc, ◌+◌, ◌-◌, List, ◌�
 use Rattle.esb_ask.specs.declared.task.Task.{Task}
 use Rattle.esb_ask.specs.declared.task.Task.TheVariants as task
 use Rattle.esb_core.specs.Steps.{entry_tasks_from}
-use Rattle.esb_core.proofs.build.entry_tasks.Goals as goal
+use Rattle.esb_core.proofs.opened.entry_tasks.Goals as goal
 
 -- the first of the tasks from a number on
 first_task : (n left more : ℕ) → left ≡ suc more → entry_tasks_from n left ≡ task.Entry n ∷ entry_tasks_from (n + 1) more

@@ -1,7 +1,0 @@
-use Rattle.std.proofs.Common.{refl, arith}
-use Rattle.esb_core.proofs.Keeping.{kept-changed}
-use Rattle.esb_core.proofs.tables.Tables.deliver.Goals as goal
-
-pub returns-clause-kept : goal.returns-clause-kept
-returns-clause-kept c =
-    kept-changed c.args.self.now _ c.args.build c.deliver.new.self c.index_mut.result.now 0 c.requires.begun c.index_mut.ensures.value refl refl refl refl (omega arith) c.deliver.ensures.stays c.requires.kept
