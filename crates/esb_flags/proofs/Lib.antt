@@ -4,5 +4,3 @@ pub mod Accepts
 pub mod Named
 pub mod Says
 pub mod Repeats
-pub mod Taken
-pub mod Asked

@@ -10,12 +10,12 @@ use Rattle.esb_flags.specs.declared.command.Command.{Command}
 use Rattle.esb_flags.specs.declared.command.Command.TheVariants as command
 use Rattle.esb_flags.specs.declared.fields.Fields.{Fields}
 use Rattle.esb_flags.specs.declared.options.Plugin.{Plugin}
-use Rattle.esb_flags.specs.Command.{asked, node_asked, command_of, keyed, serve_of, build_of, if_built, built_of, is_absolute, most_entries}
+use Rattle.esb_flags.specs.Command.{asked, node_asked, command_of, keyed, serve_of, build_of, build_flags, if_built, built_of, is_absolute, most_entries}
 use Rattle.esb_flags.specs.Fields.{Answer, ◌>>=◌, or_missing, needed, allowed, fields_of}
 use Rattle.esb_flags.specs.Named.{NodeIsMap, IsMap}
 use Rattle.esb_flags.specs.Said.{HasWord, HasNumber, Says, is_build}
 use Rattle.esb_flags.specs.Shapes.{number, boolean, text, list_of, required, entry, plugins}
-use Rattle.esb_flags.specs.Unbuilt.{flags_of}
+use Rattle.esb_flags.specs.Unbuilt.{is_built}
 
 pub both : {A B : Type 0} (a : Answer A) (f : A → Answer B) (y : B) → a >>= f ≡ Ok y → (x : A) × ((a ≡ Ok x) × (f x ≡ Ok y))
 both (Ok x) f y e = (x, (refl, e))
@@ -71,21 +71,35 @@ key_there request fields e =
     (key_stays (needed (codes "key") number request) (needed (codes "entries") (list_of entry) request) (needed (codes "flags") (list_of text) request) (needed (codes "absWorkingDir") text request)
     (needed (codes "write") boolean request) (needed (codes "context") boolean request) (allowed (codes "plugins") [] plugins request) fields e)
 
-built_by : (fields : Fields) (flags : Flags) (c : Command) (a b : Bool) → cond (not a) (Err (codes "Bad working folder")) (cond b (Ok (built_of fields flags)) (Err (codes "Too many entries"))) ≡ Ok c → built_of fields flags ≡ c
-built_by fields flags c false b e = cc
-built_by fields flags c true false e = cc
-built_by fields flags c true true e = cc
+-- what holds of the fields of a build that is read, and of its flags
+pub record Built (fields : Fields) (c : Command) : Type 0 where
+  pub taken : is_built fields ≡ true
+  pub absolute : is_absolute fields.cwd ≡ true
+  pub few : nat_le (length fields.entries) most_entries ≡ true
+  pub flags : Flags
+  pub asks : build_flags fields ≡ Ok flags
+  pub is : built_of fields flags ≡ c
 
-built : (fields : Fields) (found : Option Flags) (c : Command) → if_built fields found ≡ Ok c → (flags : Flags) × (built_of fields flags ≡ c)
-built fields None c e = cc
-built fields (Some flags) c e = (flags, built_by fields flags c (is_absolute fields.cwd) (nat_le (length fields.entries) most_entries) e)
+pub built : (fields : Fields) (c : Command) (taken : Bool) → is_built fields ≡ taken → if_built fields taken ≡ Ok c → Built fields c
+built fields c false t e = cc
+built fields c true t e = by (is_absolute fields.cwd) (nat_le (length fields.entries) most_entries) refl refl e
+  where
+    by : (a b : Bool) → is_absolute fields.cwd ≡ a → nat_le (length fields.entries) most_entries ≡ b
+        → cond (not a) (Err (codes "Bad working folder")) (cond b (build_flags fields >>= λ flags. Ok (built_of fields flags)) (Err (codes "Too many entries"))) ≡ Ok c → Built fields c
+    by false b there is f = cc
+    by true false there is f = cc
+    by true true there is f =
+        let a = both (build_flags fields) (λ flags. Ok (built_of fields flags)) c f in
+        let last : Ok (built_of fields a.0) ≡ Ok c = a.1.1 in
+        let same : built_of fields a.0 ≡ c = cc in
+        record { taken = t; absolute = there; few = is; flags = a.0; asks = a.1.0; is = same }
 
 build_says : (request : Value) (c : Command) → build_of request ≡ Ok c → HasWord (codes "build") request → Says c request
 unfolding build_of
 build_says request c e word =
-    let a = both (fields_of request) (λ fields. if_built fields (flags_of fields)) c e in
-    let b = built a.0 (flags_of a.0) c a.1.1 in
-    subst (λ (x : Command). Says x request) b.1 (word, key_there request a.0 a.1.0)
+    let a = both (fields_of request) (λ fields. if_built fields (is_built fields)) c e in
+    let b = built a.0 c (is_built a.0) refl a.1.1 in
+    subst (λ (x : Command). Says x request) b.is (word, key_there request a.0 a.1.0)
 
 -- the word that the name is
 word_is : (name word : List ℕ) (request : Value) → bytes_eq name word ≡ true → HasWord name request → HasWord word request

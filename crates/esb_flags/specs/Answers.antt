@@ -7,7 +7,7 @@ use Rattle.esb_flags.specs.declared.fault.FlagFault.TheVariants as flag_faults
 use Rattle.esb_flags.specs.declared.shapes.Misfit.{Misfit}
 use Rattle.esb_flags.specs.declared.shapes.Misfit.TheVariants as misfit
 use Rattle.esb_flags.specs.Fields.{Answer}
-use Rattle.esb_flags.specs.Flags.{word_at}
+use Rattle.esb_flags.specs.Flags.{refusal}
 
 abbrev pub Misfits : {Y : Type 0} → Misfit → Option Y → Type 0
 Misfits misfit.Shape read = read ≡ None
@@ -38,8 +38,5 @@ IsUnfit name misfit.Memory fault = fault ≡ faults.Memory
 
 -- the refusal for a fault of these flags
 abbrev pub IsFlagRefusal : List (List ℕ) → FlagFault → CommandFault → Type 0
-IsFlagRefusal words (flag_faults.BadFlag place) fault = IsRefusal (codes "Bad flag: " ++ word_at words place) fault
-IsFlagRefusal words (flag_faults.Repeated place) fault = IsRefusal (codes "Repeated flag: " ++ word_at words place) fault
-IsFlagRefusal words flag_faults.NeedsOutdir fault = IsRefusal (codes "Must use outdir") fault
-IsFlagRefusal words flag_faults.SplittingNeedsEsm fault = IsRefusal (codes "Splitting needs esm") fault
 IsFlagRefusal words flag_faults.Memory fault = fault ≡ faults.Memory
+IsFlagRefusal words wrong fault = IsRefusal (refusal words wrong) fault

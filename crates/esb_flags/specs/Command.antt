@@ -1,5 +1,5 @@
 -- What a request asks for, or the text of its first refusal.
-use Rattle.std.specs.Prelude.{ℕ, Bool, not, if◌then◌else◌, nat_le, nat_eq, List, ◌++◌, length, codes, Option, Some, None, Ok, Err}
+use Rattle.std.specs.Prelude.{ℕ, Bool, true, false, not, if◌then◌else◌, nat_le, nat_eq, List, ◌++◌, length, codes, Result, Ok, Err}
 use Rattle.std.specs.List.{starts_with}
 use Rattle.std.specs.Str.{bytes_eq}
 use Rattle.esb_base.specs.declared.flags.Flags.{Flags}
@@ -7,11 +7,13 @@ use Rattle.esb_wire.specs.declared.value.Value.{Value, out-Value}
 use Rattle.esb_wire.specs.declared.value.Value.TheOpen.{Value-F}
 use Rattle.esb_flags.specs.declared.command.Command.{Command}
 use Rattle.esb_flags.specs.declared.command.Command.TheVariants as command
+use Rattle.esb_flags.specs.declared.fault.FlagFault.{FlagFault}
 use Rattle.esb_flags.specs.declared.fields.Fields.{Fields}
 use Rattle.esb_flags.specs.declared.options.Options.{Options}
 use Rattle.esb_flags.specs.Shapes.{number, text}
 use Rattle.esb_flags.specs.Fields.{Answer, ◌>>=◌, needed, fields_of}
-use Rattle.esb_flags.specs.Unbuilt.{flags_of}
+use Rattle.esb_flags.specs.Flags.{read, refusal}
+use Rattle.esb_flags.specs.Unbuilt.{is_built}
 
 abbrev pub most_entries : ℕ
 most_entries = 1024
@@ -32,15 +34,27 @@ built_of fields flags = command.Build fields.key (options_of fields flags)
 abbrev pub is_absolute : List ℕ → Bool
 is_absolute path = starts_with nat_eq path (codes "/")
 
-abbrev pub if_built : Fields → Option Flags → Answer Command
-if_built fields None = Err (codes "Not built yet")
-if_built fields (Some flags) = if not (is_absolute fields.cwd) then Err (codes "Bad working folder")
-    else (if nat_le (length fields.entries) most_entries then Ok (built_of fields flags) else Err (codes "Too many entries"))
+-- what the words ask for, or the refusal for their first fault
+abbrev pub or_refusal : List (List ℕ) → Result Flags FlagFault → Answer Flags
+or_refusal words (Ok flags) = Ok flags
+or_refusal words (Err fault) = Err (refusal words fault)
 
+abbrev pub build_flags : Fields → Answer Flags
+build_flags fields = or_refusal fields.flags (read (length fields.entries) fields.flags)
+
+-- A build of the forms that this version takes: what is wrong with its folder, its entries and its flags, in this order.
+abbrev pub if_built : Fields → Bool → Answer Command
+if_built fields false = Err (codes "Not built yet")
+if_built fields true = if not (is_absolute fields.cwd) then Err (codes "Bad working folder")
+    else (if nat_le (length fields.entries) most_entries
+    then (build_flags fields >>= λ flags. Ok (built_of fields flags))
+    else Err (codes "Too many entries"))
+
+-- Whether the build is taken at all goes before what its folder, entries and flags are.
 unfoldable pub build_of : Value → Answer Command
 build_of request = do
   fields ← fields_of request
-  if_built fields (flags_of fields)
+  if_built fields (is_built fields)
 
 -- a command that has a key alone
 abbrev pub keyed : (ℕ → Command) → Value → Answer Command

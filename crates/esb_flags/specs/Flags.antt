@@ -209,3 +209,11 @@ AnswersFlags result said = result ≡ said
 -- the word at a place, or an empty text where there is none
 abbrev pub word_at : List (List ℕ) → ℕ → List ℕ
 word_at words place = or_text [] (slice_get words place)
+
+-- the text of the refusal for a fault of these words. No words have the last one.
+abbrev pub refusal : List (List ℕ) → FlagFault → List ℕ
+refusal words (faults.BadFlag place) = codes "Bad flag: " ++ word_at words place
+refusal words (faults.Repeated place) = codes "Repeated flag: " ++ word_at words place
+refusal words faults.NeedsOutdir = codes "Must use outdir"
+refusal words faults.SplittingNeedsEsm = codes "Splitting needs esm"
+refusal words faults.Memory = []

@@ -1,30 +1,15 @@
--- Which builds this version takes: files of one folder, copied into another. All others are refused as not built yet.
-use Rattle.std.specs.Prelude.{ℕ, ◌==◌, Bool, true, false, not, ◌&&◌, if◌then◌else◌, nat_eq, List, [], ◌∷◌, length, map, codes, Option, Some, None}
-use Rattle.std.specs.List.{list_all, list_any, slice_split, ends_with}
+-- Which builds this version takes. All others are refused as not built yet.
+use Rattle.std.specs.Prelude.{ℕ, ◌==◌, Bool, true, false, not, ◌&&◌, nat_eq, List, [], ◌∷◌, length, map, codes, Option, Some, None}
+use Rattle.std.specs.List.{list_all, list_any, slice_split, starts_with}
+use Rattle.std.specs.Option.{is_some}
 use Rattle.std.specs.Str.{bytes_eq}
-use Rattle.esb_base.specs.declared.flags.Flags.{Flags}
-use Rattle.esb_base.specs.declared.flags.Loader.TheVariants as loader
 use Rattle.esb_flags.specs.declared.fields.Fields.{Fields}
-use Rattle.esb_flags.specs.Shapes.{◌>>=◌}
-use Rattle.esb_flags.specs.Words.{slash, dot, holds, if_word, behind, before}
+use Rattle.esb_flags.specs.declared.kind.Kind.{Kind}
+use Rattle.esb_flags.specs.declared.kind.Kind.TheVariants as kind
+use Rattle.esb_flags.specs.Flags.{front, behind_brackets}
+use Rattle.esb_flags.specs.Words.{slash, holds, behind}
 
--- X of `--outdir=X`
-unfoldable pub outdir_of : List ℕ → Option (List ℕ)
-outdir_of flag = behind (codes "--outdir=") flag >>= if_word
-
--- E of `--loader:.E=copy`
-unfoldable pub extension_of : List ℕ → Option (List ℕ)
-extension_of flag = do
-  assigned ← behind (codes "--loader:.") flag
-  extension ← before (codes "=copy") assigned
-  if_word extension
-
-abbrev pub copying : List (List ℕ) → Option (List ℕ × List ℕ)
-copying (first ∷ second ∷ []) = do
-  outdir ← outdir_of first
-  extension ← extension_of second
-  Some (outdir, extension)
-copying flags = None
+-- ---- paths: files of the working folder, and outputs in one folder of it that are named as their entries
 
 abbrev pub is_segment : List ℕ → Bool
 is_segment segment = not (length segment == 0) && not (bytes_eq segment (codes ".")) && not (bytes_eq segment (codes ".."))
@@ -34,34 +19,47 @@ abbrev pub is_folder : List ℕ → Bool
 is_folder [] = false
 is_folder (first ∷ rest) = (first == slash) && list_all is_segment (slice_split (λ b. b == slash) rest)
 
--- An entry with no output path of its own, and the path of a file of the working folder that ends so.
-abbrev pub is_copied : List ℕ → List ℕ × List ℕ → Bool
-is_copied suffix entry = (length entry.0 == 0) && ends_with nat_eq entry.1 suffix && not (holds slash entry.1)
+-- what a file or a folder of a folder may be called
+abbrev pub is_name : List ℕ → Bool
+is_name chars = is_segment chars && not (holds slash chars)
+
+-- an entry with no output path of its own, and a file of the working folder
+abbrev pub is_plain : List ℕ × List ℕ → Bool
+is_plain entry = (length entry.0 == 0) && is_name entry.1
 
 -- no text stands twice
 abbrev pub all_differ : List (List ℕ) → Bool
 all_differ [] = true
 all_differ (chars ∷ others) = not (list_any (bytes_eq chars) others) && all_differ others
 
--- A path that ends with a dot and the extension, which has no dot, is not empty and not one or two dots.
-unfoldable pub is_copying : List ℕ → Fields → Bool
-is_copying extension fields = not fields.write && (length fields.plugins == 0) && is_folder fields.cwd
-    && list_all (is_copied (dot ∷ extension)) fields.entries && all_differ (map (λ entry. entry.1) fields.entries)
+abbrev pub is_flag : Kind → List ℕ → Bool
+is_flag which word = is_some (behind (front which) word)
 
-abbrev pub copy_flags : List ℕ → List ℕ → Flags
-copy_flags outdir extension = record {
-  outdir = Some outdir;
-  outfile = None;
-  splitting = false;
-  loaders = (extension, loader.Copy) ∷ [];
-  externals = [];
-  conditions = [];
-  entry_names = codes "[dir]/[name]";
-  chunk_names = codes "[name]-[hash]";
-}
+-- a value that is there is a name
+abbrev pub if_name : Option (List ℕ) → Bool
+if_name None = true
+if_name (Some value) = is_name value
 
--- the flags of a build that this version takes
-unfoldable pub flags_of : Fields → Option Flags
-flags_of fields = do
-  words ← copying fields.flags
-  if is_copying words.1 fields then Some (copy_flags words.0 words.1) else None
+-- A word that moves no output, but into a folder of the working folder. No other word is looked at, and no word is judged.
+abbrev pub is_placed : List ℕ → Bool
+is_placed word = not (is_flag kind.Outfile word) && not (is_flag kind.EntryNames word) && if_name (behind (front kind.Outdir) word)
+
+-- ---- chunks: one for each entry, and no name that has a hash
+
+abbrev pub has_hash : List ℕ → Bool
+has_hash value = list_any (λ rest. starts_with nat_eq rest (codes "hash]")) (behind_brackets value)
+
+-- a value that is there has no hash
+abbrev pub if_unhashed : Option (List ℕ) → Bool
+if_unhashed None = true
+if_unhashed (Some value) = not (has_hash value)
+
+abbrev pub is_unsplit : List ℕ → Bool
+is_unsplit word = not (bytes_eq word (front kind.Splitting)) && if_unhashed (behind (front kind.EntryNames) word) && if_unhashed (behind (front kind.ChunkNames) word)
+
+-- ---- a build
+
+unfoldable pub is_built : Fields → Bool
+is_built fields = not fields.write && (length fields.plugins == 0) && is_folder fields.cwd
+    && list_all is_plain fields.entries && all_differ (map (λ entry. entry.1) fields.entries)
+    && list_all is_placed fields.flags && list_all is_unsplit fields.flags

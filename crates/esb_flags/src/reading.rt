@@ -1,15 +1,16 @@
-ghost use Rattle.std.specs.Prelude.{◌≡◌, ℕ, List, Ok, Err, IfOk};
+ghost use Rattle.std.specs.Prelude.{◌≡◌, ◌≤◌, ℕ, List, Ok, Err, IfOk, length};
 ghost use Rattle.esb_flags.specs.Answers.{Answers, IsUnfit};
-ghost use Rattle.esb_flags.specs.Command.{asked, build_of, command_of, is_absolute, serve_of};
+ghost use Rattle.esb_flags.specs.Command.{asked, build_of, build_flags, command_of, is_absolute, most_entries, serve_of};
 ghost use Rattle.esb_flags.specs.Fields.{needed, allowed, fields_of};
 
 use crate::command::{Command, CommandFault};
 use crate::fields::Fields;
+use crate::flags::read_flags;
 use crate::options::Options;
-use crate::refusal::{refused, refused_for};
+use crate::refusal::{refusal_of, refused, refused_for};
 use crate::shapes::{Misfit, Shaped, optional, required};
-use crate::unbuilt::flags_of;
-use esb_base::{List, Text};
+use crate::unbuilt::is_built;
+use esb_base::{Flags, List, Text};
 use esb_wire::Value;
 use std::alloc::Global;
 
@@ -77,20 +78,33 @@ fn is_absolute(path: &str) -> bool
     path.as_bytes().starts_with(b"/")
 }
 
+/// What the flags of a build ask for. It has at most so many entries as a build may have.
+fn build_flags(alloc: Global, fields: &Fields) -> Result<Flags, CommandFault>
+    requires { length fields.now.entries ≤ most_entries }
+    ensures { Answers result (build_flags fields.now) }
+{
+    let words = fields.flags.as_slice();
+    match read_flags(alloc, words, fields.entries.len() as u32) {
+        Ok(flags) => Ok(flags),
+        Err(fault) => Err(refusal_of(alloc, fault, words)),
+    }
+}
+
 #[tactic(auto, unfolding(crate::specs::Command::build_of))]
 fn build_of(alloc: Global, request: &Value) -> Result<Command, CommandFault>
     ensures { Answers result (build_of request.now) }
 {
     let fields = fields_of(alloc, request)?;
-    let Some(flags) = flags_of(alloc, &fields)? else {
+    if !is_built(alloc, &fields)? {
         return Err(refused(alloc, "Not built yet"));
-    };
+    }
     if !is_absolute(fields.cwd.as_str()) {
         return Err(refused(alloc, "Bad working folder"));
     }
     if fields.entries.len() > MOST_ENTRIES {
         return Err(refused(alloc, "Too many entries"));
     }
+    let flags = build_flags(alloc, &fields)?;
     Ok(Command::Build {
         key: fields.key,
         options: Options {

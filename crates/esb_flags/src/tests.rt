@@ -74,13 +74,16 @@ const PLUGINS: [Row; 4] = [
     ),
 ];
 
-const ENTRIES: [Row; 7] = [
+const ENTRIES: [Row; 10] = [
     ("entries", Put::Lists(&[]), ""),
     ("entries", Put::Lists(&[&["", ".txt"]]), ""),
+    ("entries", Put::Lists(&[&["", "a.js"], &["", "atxt"]]), ""),
     ("entries", Put::Lists(&[&["x", "a.txt"]]), "Not built yet"),
-    ("entries", Put::Lists(&[&["", "a.js"]]), "Not built yet"),
-    ("entries", Put::Lists(&[&["", "atxt"]]), "Not built yet"),
+    ("entries", Put::Lists(&[&["", ""]]), "Not built yet"),
+    ("entries", Put::Lists(&[&["", "."]]), "Not built yet"),
+    ("entries", Put::Lists(&[&["", ".."]]), "Not built yet"),
     ("entries", Put::Lists(&[&["", "d/a.txt"]]), "Not built yet"),
+    ("entries", Put::Lists(&[&["", "a.txt/"]]), "Not built yet"),
     (
         "entries",
         Put::Lists(&[&["", "a.txt"], &["", "b.txt"], &["", "a.txt"]]),
@@ -93,35 +96,40 @@ const COUNTS: [Row; 2] = [
     ("entries", Put::Entries(1_025), "Too many entries"),
 ];
 
-const FLAGS: [Row; 8] = [
+const LISTS: [Row; 2] = [
     ("flags", Put::Chars("--outdir=out"), "Missing field: flags"),
     ("flags", Put::Lists(&[&[]]), "Missing field: flags"),
-    ("flags", Put::Texts(&["--outdir=out"]), "Not built yet"),
+];
+
+/// The flags of the good request, and the text of the refusal, or none.
+const FLAGS: [(&[&str], &str); 22] = [
+    (&["--outdir=out"], ""),
+    (&["--bundle", "--loader:.txt=copy", "--outdir=out"], ""),
+    (&[], "Must use outdir"),
+    (&["--minify"], "Bad flag: --minify"),
+    (&["--outdir=a", "--outdir=b"], "Repeated flag: --outdir=b"),
+    (&["--loader:.=js", "--outdir=a"], "Bad flag: --loader:.=js"),
+    (&["--splitting=true"], "Bad flag: --splitting=true"),
+    (&["--chunk-names=[hash"], "Bad flag: --chunk-names=[hash"),
+    (&["--outdir=a.b", "--chunk-names=hash]-[name]"], ""),
+    // where outputs go
+    (&["--outdir=a/b"], "Not built yet"),
+    (&["--outdir=/a"], "Not built yet"),
+    (&["--outdir="], "Not built yet"),
+    (&["--outdir=."], "Not built yet"),
+    (&["--outdir=a", "--outdir=.."], "Not built yet"),
+    (&["--outfile=a"], "Not built yet"),
+    (&["--outdir=a", "--entry-names=[name]"], "Not built yet"),
+    (&["--outdir=a", "--entry-names="], "Not built yet"),
+    // chunks, and names that their contents give
+    (&["--outdir=a", "--splitting"], "Not built yet"),
+    (&["--minify", "--splitting"], "Not built yet"),
+    (&["--outdir=a", "--chunk-names=[hash]"], "Not built yet"),
     (
-        "flags",
-        Put::Texts(&["--loader:.txt=copy", "--outdir=out"]),
+        &["--outdir=a", "--chunk-names=[dir][hash]"],
         "Not built yet",
     ),
-    (
-        "flags",
-        Put::Texts(&["--outdir=a/b", "--loader:.txt=copy"]),
-        "Not built yet",
-    ),
-    (
-        "flags",
-        Put::Texts(&["--outdir=", "--loader:.txt=copy"]),
-        "Not built yet",
-    ),
-    (
-        "flags",
-        Put::Texts(&["--outdir=out", "--loader:.txt=text"]),
-        "Not built yet",
-    ),
-    (
-        "flags",
-        Put::Texts(&["--outdir=out", "--loader:.=copy"]),
-        "Not built yet",
-    ),
+    (&["--chunk-names=[[hash]", "--minify"], "Not built yet"),
 ];
 
 const FOLDERS: [Row; 5] = [
@@ -218,7 +226,7 @@ const UNFIT: [Asked; 9] = [
 ];
 
 /// Requests with more than one thing wrong.
-const ORDER: [Asked; 5] = [
+const ORDER: [Asked; 6] = [
     (
         &[("key", Put::Null), ("command", Put::Chars(""))],
         "Unknown command: ",
@@ -255,6 +263,18 @@ const ORDER: [Asked; 5] = [
             ("context", Put::Flag(true)),
         ],
         "Not built yet",
+    ),
+    (
+        &[
+            ("command", Put::Chars("build")),
+            ("key", Put::Number(1)),
+            ("entries", Put::Entries(1_025)),
+            ("flags", Put::Texts(&["--minify"])),
+            ("absWorkingDir", Put::Chars("/w")),
+            ("write", Put::Flag(false)),
+            ("context", Put::Flag(true)),
+        ],
+        "Too many entries",
     ),
 ];
 
@@ -460,8 +480,8 @@ fn rows_of_counts(rt: HostRuntime) -> Result<(), Fail> {
 }
 
 #[test]
-fn rows_of_flags(rt: HostRuntime) -> Result<(), Fail> {
-    for (field, put, text) in FLAGS {
+fn rows_of_lists(rt: HostRuntime) -> Result<(), Fail> {
+    for (field, put, text) in LISTS {
         assert!(rt; row_holds(rt.alloc(), field, put, text)?, "{field}: {text}");
     }
     Ok(())
@@ -471,6 +491,17 @@ fn rows_of_flags(rt: HostRuntime) -> Result<(), Fail> {
 fn rows_of_folders(rt: HostRuntime) -> Result<(), Fail> {
     for (field, put, text) in FOLDERS {
         assert!(rt; row_holds(rt.alloc(), field, put, text)?, "{field}: {text}");
+    }
+    Ok(())
+}
+
+#[test]
+fn rows_of_flags(rt: HostRuntime) -> Result<(), Fail> {
+    for (words, text) in FLAGS {
+        assert!(rt;
+            row_holds(rt.alloc(), "flags", Put::Texts(words), text)?,
+            "{text}"
+        );
     }
     Ok(())
 }

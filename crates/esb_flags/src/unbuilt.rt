@@ -1,42 +1,17 @@
-//! The builds that this version takes: files of one folder, copied into another.
+//! The builds that this version takes: files of one folder, each to an output in one folder of it.
 
-ghost use Rattle.std.specs.Prelude.{◌≡◌, ◌==◌, ◌∷◌, [], map, IfOk, string_bytes};
+ghost use Rattle.std.specs.Prelude.{◌≡◌, ◌==◌, map, IfOk};
 ghost use Rattle.std.specs.List.{list_all, slice_split};
-ghost use Rattle.std.specs.Option.{option_copied, option_map};
-ghost use Rattle.esb_flags.specs.Words.{dot};
-ghost use Rattle.esb_flags.specs.Unbuilt.{outdir_of, extension_of, copying, is_segment, is_folder, is_copied, all_differ, is_copying, copy_flags, flags_of};
+ghost use Rattle.std.specs.Option.{option_copied};
+ghost use Rattle.esb_flags.specs.Unbuilt.{is_segment, is_folder, is_name, is_plain, all_differ, is_flag, if_name, is_placed, has_hash, if_unhashed, is_unsplit, is_built};
 
 use crate::fields::Fields;
-use crate::words::{before, behind, if_word};
-use esb_base::{Flags, List, Loader, Memory, Text};
+use crate::flag::front;
+use crate::kind::Kind;
+use crate::words::behind;
+use esb_base::{Memory, Text};
 use std::alloc::Global;
 use std::collections::BTreeMap;
-
-#[tactic(auto, unfolding(crate::specs::Unbuilt::outdir_of))]
-fn outdir_of(flag: &str) -> Option<&str>
-    ensures { option_copied result ≡ outdir_of flag.now }
-{
-    if_word(behind("--outdir=", flag)?)
-}
-
-#[tactic(auto, unfolding(crate::specs::Unbuilt::extension_of))]
-fn extension_of(flag: &str) -> Option<&str>
-    ensures { option_copied result ≡ extension_of flag.now }
-{
-    let assigned = behind("--loader:.", flag)?;
-    if_word(before("=copy", assigned)?)
-}
-
-fn copying(flags: &[Text]) -> Option<(&str, &str)>
-    ensures { option_map (λ words. (words.0.now, words.1.now)) result ≡ copying flags.now }
-{
-    let [first, second] = flags else {
-        return None;
-    };
-    let outdir = outdir_of(first.as_str())?;
-    let extension = extension_of(second.as_str())?;
-    Some((outdir, extension))
-}
 
 fn is_segment(segment: &str) -> bool
     ensures { result ≡ is_segment segment.now }
@@ -59,17 +34,22 @@ fn is_folder(path: &str) -> bool
     }
 }
 
-fn is_copied(suffix: &[u8], entry: &(Text, Text)) -> bool
-    ensures { result ≡ is_copied suffix.now entry.now }
+fn is_name(chars: &str) -> bool
+    ensures { result ≡ is_name chars.now }
 {
-    let path = entry.1.as_bytes();
-    entry.0.as_bytes().is_empty() && path.ends_with(suffix) && !path.contains(&b'/')
+    is_segment(chars) && !chars.as_bytes().contains(&b'/')
 }
 
-fn are_copied(suffix: &[u8], entries: &[(Text, Text)]) -> bool
-    ensures { result ≡ list_all (is_copied suffix.now) entries.now }
+fn is_plain(entry: &(Text, Text)) -> bool
+    ensures { result ≡ is_plain entry.now }
 {
-    entries.iter().all(|entry| is_copied(suffix, entry))
+    entry.0.as_str().is_empty() && is_name(entry.1.as_str())
+}
+
+fn are_plain(entries: &[(Text, Text)]) -> bool
+    ensures { result ≡ list_all is_plain entries.now }
+{
+    entries.iter().all(|entry| is_plain(entry))
 }
 
 /// Whether no path stands twice.
@@ -85,57 +65,81 @@ fn paths_differ(alloc: Global, entries: &[(Text, Text)]) -> Result<bool, Memory>
     Ok(true)
 }
 
-fn suffix_of(alloc: Global, extension: &str) -> Result<String, Memory>
-    ensures { IfOk result (λ suffix. string_bytes suffix ≡ dot ∷ extension.now) }
+fn is_flag(kind: Kind, word: &str) -> bool
+    ensures { result ≡ is_flag kind word.now }
 {
-    let mut suffix = String::from_str(alloc, ".")?;
-    suffix.push_str(extension)?;
-    Ok(suffix)
+    behind(front(kind), word).is_some()
 }
 
-#[tactic(auto, unfolding(crate::specs::Unbuilt::is_copying))]
-fn is_copying(alloc: Global, extension: &str, fields: &Fields) -> Result<bool, Memory>
-    ensures { IfOk result (λ copying. copying ≡ is_copying extension.now fields.now) }
+/// Whether the value of a flag, where there is one, is a name.
+fn if_name(value: Option<&str>) -> bool
+    ensures { result ≡ if_name (option_copied value.entry) }
 {
-    if fields.write || !fields.plugins.is_empty() {
+    match value {
+        Some(value) => is_name(value),
+        None => true,
+    }
+}
+
+fn is_placed(word: &str) -> bool
+    ensures { result ≡ is_placed word.now }
+{
+    !is_flag(Kind::Outfile, word)
+        && !is_flag(Kind::EntryNames, word)
+        && if_name(behind(front(Kind::Outdir), word))
+}
+
+fn are_placed(words: &[Text]) -> bool
+    ensures { result ≡ list_all is_placed words.now }
+{
+    words.iter().all(|word| is_placed(word.as_str()))
+}
+
+fn has_hash(value: &str) -> bool
+    ensures { result ≡ has_hash value.now }
+{
+    value
+        .split('[')
+        .skip(1)
+        .any(|rest| rest.starts_with("hash]"))
+}
+
+/// Whether the value of a flag, where there is one, has no hash.
+fn if_unhashed(value: Option<&str>) -> bool
+    ensures { result ≡ if_unhashed (option_copied value.entry) }
+{
+    match value {
+        Some(value) => !has_hash(value),
+        None => true,
+    }
+}
+
+fn is_unsplit(word: &str) -> bool
+    ensures { result ≡ is_unsplit word.now }
+{
+    word != front(Kind::Splitting)
+        && if_unhashed(behind(front(Kind::EntryNames), word))
+        && if_unhashed(behind(front(Kind::ChunkNames), word))
+}
+
+fn are_unsplit(words: &[Text]) -> bool
+    ensures { result ≡ list_all is_unsplit words.now }
+{
+    words.iter().all(|word| is_unsplit(word.as_str()))
+}
+
+/// Whether this version takes the build.
+#[tactic(auto, unfolding(crate::specs::Unbuilt::is_built))]
+pub(crate) fn is_built(alloc: Global, fields: &Fields) -> Result<bool, Memory>
+    ensures { IfOk result (λ built. built ≡ is_built fields.now) }
+{
+    if fields.write || !fields.plugins.is_empty() || !is_folder(fields.cwd.as_str()) {
         return Ok(false);
     }
-    let suffix = suffix_of(alloc, extension)?;
     let entries = fields.entries.as_slice();
-    if !is_folder(fields.cwd.as_str()) || !are_copied(suffix.as_bytes(), entries) {
+    if !are_plain(entries) || !paths_differ(alloc, entries)? {
         return Ok(false);
     }
-    paths_differ(alloc, entries)
-}
-
-fn copy_flags(alloc: Global, outdir: &str, extension: &str) -> Result<Flags, Memory>
-    ensures { IfOk result (λ flags. flags ≡ copy_flags outdir.now extension.now) }
-{
-    let mut loaders = List::new(alloc);
-    loaders.push((Text::of(alloc, extension)?, Loader::Copy))?;
-    Ok(Flags {
-        outdir: Some(Text::of(alloc, outdir)?),
-        outfile: None,
-        splitting: false,
-        loaders,
-        externals: List::new(alloc),
-        conditions: List::new(alloc),
-        entry_names: Text::of(alloc, "[dir]/[name]")?,
-        chunk_names: Text::of(alloc, "[name]-[hash]")?,
-    })
-}
-
-/// The flags of a build that this version takes.
-#[tactic(auto, unfolding(crate::specs::Unbuilt::flags_of))]
-pub(crate) fn flags_of(alloc: Global, fields: &Fields) -> Result<Option<Flags>, Memory>
-    ensures { IfOk result (λ flags. flags ≡ flags_of fields.now) }
-{
-    let Some((outdir, extension)) = copying(fields.flags.as_slice()) else {
-        return Ok(None);
-    };
-    if is_copying(alloc, extension, fields)? {
-        Ok(Some(copy_flags(alloc, outdir, extension)?))
-    } else {
-        Ok(None)
-    }
+    let words = fields.flags.as_slice();
+    Ok(are_placed(words) && are_unsplit(words))
 }

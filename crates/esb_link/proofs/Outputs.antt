@@ -13,6 +13,8 @@ use Rattle.std.proofs.lemmas.Map.Keys.{IsDistinct-cons, IsDistinct-head, IsDisti
 use Rattle.std.proofs.lemmas.Option.{slice_get_within}
 use Rattle.std.proofs.lemmas.Slice.Eq.{bytes_eq-Decides}
 use Rattle.esb_base.specs.declared.file_name.FileName.{FileName}
+use Rattle.esb_base.specs.declared.flags.Loader.{Loader}
+use Rattle.esb_base.specs.declared.flags.Loader.TheVariants as loader
 use Rattle.esb_flags.specs.declared.options.Options.{Options}
 use Rattle.esb_ask.specs.declared.question.Question.{Question}
 use Rattle.esb_ask.specs.declared.question.Question.TheVariants as question
@@ -30,8 +32,9 @@ use Rattle.esb_wire.specs.Written.{by_key}
 use Rattle.esb_wire.proofs.Ordered.{by_key_ascends}
 use Rattle.esb_wire.proofs.Permuted.{by_key_permuted}
 use Rattle.esb_scan.specs.declared.run.Run.TheVariants as run_of
+use Rattle.esb_scan.specs.Loaders.{loader_of}
 use Rattle.esb_scan.specs.Paths.{below}
-use Rattle.esb_scan.specs.Run.{ask_or, entry_path, system_file, resolved_by, loaded_by, run_numbered, run_load, is_done}
+use Rattle.esb_scan.specs.Run.{ask_or, entry_path, system_file, resolved_by, read_by, loaded_by, run_numbered, run_load, is_done}
 use Rattle.esb_link.specs.SerialLink.{IsComplete, IsEntryComplete, resolved_in, resolution, loaded_in, load_of, found_messages, load_messages, entry_messages, file_messages, out_folder, out_path, copied_by, copied, out_file, out_files, ended, serial_link, in_text, path_of}
 
 -- ---- in order
@@ -89,7 +92,7 @@ module _ (folder : List ℕ) (given : List ℕ × List ℕ → Option Loaded) wh
 pub out_files_permuted : (options : Options) (table : List (Question × Answer)) → IsDistinct bytes_eq (map in_text options.entries) → IsPermutation (map out_file (copied options table)) (out_files options table)
 out_files_permuted options table h =
     IsPermutation-map out_file (copied options table) (by_key (copied options table))
-    (by_key_permuted (copied options table) (distinct_outputs (out_folder options) (λ entry. load_of table (resolution options table entry)) options.entries h))
+    (by_key_permuted (copied options table) (distinct_outputs (out_folder options) (λ entry. load_of options table (resolution options table entry)) options.entries h))
 
 -- ---- the contents of an entry
 
@@ -123,25 +126,27 @@ module _ (options : Options) (table : List (Question × Answer)) where
   entry_by entry first = product.Entry (resolved_by (path entry) entry.1 first)
 
   abbrev load_by : List ℕ × List ℕ → Answer → Product
-  load_by entry first = product.Load (loaded_by (path entry) first)
+  load_by entry first = product.Load (loaded_by options (system_file (path entry)) first)
 
   abbrev load_at : List ℕ × List ℕ → Option Loaded
-  load_at entry = load_of table (resolution options table entry)
+  load_at entry = load_of options table (resolution options table entry)
 
   -- the load of an entry's file by what the table has
-  entry_given : (entry : List ℕ × List ℕ) (contents : List ℕ) → answer_to table (question.Kind (path entry)) ≡ Some answer.File → answer_to table (question.Read (path entry)) ≡ Some (answer.Bytes contents) → load_at entry ≡ Some (loaded.Copied contents)
-  entry_given entry contents kind read =
-      ap (λ (r : Option Answer). load_of table (resolved_in (ask_or r (question.Kind (path entry)) (entry_by entry)))) kind
+  entry_given : (entry : List ℕ × List ℕ) (contents : List ℕ) → answer_to table (question.Kind (path entry)) ≡ Some answer.File → answer_to table (question.Read (path entry)) ≡ Some (answer.Bytes contents) → loader_of options.flags (path entry) ≡ Some loader.Copy
+      → load_at entry ≡ Some (loaded.Copied contents)
+  entry_given entry contents kind read copies =
+      ap (λ (r : Option Answer). load_of options table (resolved_in (ask_or r (question.Kind (path entry)) (entry_by entry)))) kind
       ∙ ap (λ (r : Option Answer). loaded_in (ask_or r (question.Read (path entry)) (load_by entry))) read
+      ∙ ap (λ (l : Option Loader). Some (read_by options (system_file (path entry)) contents l)) copies
 
   -- the output of each entry has the contents that were read at its path
   pub contents_there : IsDistinct bytes_eq (map in_text options.entries) → (number : ℕ) (entry : List ℕ × List ℕ) (contents : List ℕ) → slice_get options.entries number ≡ Some entry
-      → answer_to table (question.Kind (path entry)) ≡ Some answer.File → answer_to table (question.Read (path entry)) ≡ Some (answer.Bytes contents)
+      → answer_to table (question.Kind (path entry)) ≡ Some answer.File → answer_to table (question.Read (path entry)) ≡ Some (answer.Bytes contents) → loader_of options.flags (path entry) ≡ Some loader.Copy
       → Contains (out_files options table) (out_file (out_path options entry, contents))
-  contents_there distinct number entry contents at kind read =
+  contents_there distinct number entry contents at kind read copies =
       let pair : List ℕ × List ℕ = (out_path options entry, contents) in
       let own : Contains (copied_by (out_path options entry) (load_at entry)) pair =
-      subst (λ (l : Option Loaded). Contains (copied_by (out_path options entry) l) pair) (sym (entry_given entry contents kind read)) (0, omega arith, refl) in
+      subst (λ (l : Option Loaded). Contains (copied_by (out_path options entry) l) pair) (sym (entry_given entry contents kind read copies)) (0, omega arith, refl) in
       Contains-permutation (map out_file (copied options table)) (out_files options table) (out_file pair) (out_files_permuted options table distinct)
       (contains_map out_file (copied options table) pair (contains_at (λ (e : List ℕ × List ℕ). copied_by (out_path options e) (load_at e)) options.entries number entry pair at own))
 
@@ -155,12 +160,17 @@ module _ (options : Options) (table : List (Question × Answer)) where
   read_copied entry (Some answer.Missing) done none = absurd cc
   read_copied entry (Some answer.TooBig) done none = absurd cc
   read_copied entry (Some answer.Fault) done none = absurd cc
-  read_copied entry (Some (answer.Bytes contents)) done none = (contents, refl)
+  read_copied entry (Some (answer.Bytes contents)) done none = by_loader (loader_of options.flags (path entry)) none
+    where
+      by_loader : (l : Option Loader) → load_messages (Some (read_by options (system_file (path entry)) contents l)) ≡ [] → (own : List ℕ) × (Some (read_by options (system_file (path entry)) contents l) ≡ Some (loaded.Copied own))
+      by_loader None h = absurd cc
+      by_loader (Some loader.Copy) h = (contents, refl)
+      by_loader (Some other) h = absurd cc
 
   found_copied : (entry : List ℕ × List ℕ) (r : Option Answer) → is_done (ask_or r (question.Kind (path entry)) (entry_by entry)) ≡ true
-      → ((name : FileName) (marked : Bool) → ask_or r (question.Kind (path entry)) (entry_by entry) ≡ run_of.Done (product.Entry (resolved.To name marked)) → is_done (run_load table name) ≡ true)
-      → found_messages (resolved_in (ask_or r (question.Kind (path entry)) (entry_by entry))) ≡ [] → load_messages (load_of table (resolved_in (ask_or r (question.Kind (path entry)) (entry_by entry)))) ≡ []
-      → (contents : List ℕ) × (load_of table (resolved_in (ask_or r (question.Kind (path entry)) (entry_by entry))) ≡ Some (loaded.Copied contents))
+      → ((name : FileName) (marked : Bool) → ask_or r (question.Kind (path entry)) (entry_by entry) ≡ run_of.Done (product.Entry (resolved.To name marked)) → is_done (run_load options table name) ≡ true)
+      → found_messages (resolved_in (ask_or r (question.Kind (path entry)) (entry_by entry))) ≡ [] → load_messages (load_of options table (resolved_in (ask_or r (question.Kind (path entry)) (entry_by entry)))) ≡ []
+      → (contents : List ℕ) × (load_of options table (resolved_in (ask_or r (question.Kind (path entry)) (entry_by entry))) ≡ Some (loaded.Copied contents))
   found_copied entry None done loads none none_too = absurd (true≢false (sym done))
   found_copied entry (Some answer.File) done loads none none_too = read_copied entry (answer_to table (question.Read (path entry))) (loads (system_file (path entry)) false refl) none_too
   found_copied entry (Some answer.Folder) done loads none none_too = absurd cc

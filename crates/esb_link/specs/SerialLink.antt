@@ -40,11 +40,11 @@ loaded_in (run_of.Done (product.Load loading)) = Some loading
 loaded_in run_of.Memory = None
 
 -- what the load gave of the file to which an entry leads
-abbrev pub load_of : List (Question × Answer) → Resolved → Option Loaded
-load_of table (resolved.To name marked) = loaded_in (run_load table name)
-load_of table resolved.External = None
-load_of table resolved.Left = None
-load_of table (resolved.Refused message) = None
+abbrev pub load_of : Options → List (Question × Answer) → Resolved → Option Loaded
+load_of options table (resolved.To name marked) = loaded_in (run_load options table name)
+load_of options table resolved.External = None
+load_of options table resolved.Left = None
+load_of options table (resolved.Refused message) = None
 
 -- ---- messages
 
@@ -65,7 +65,7 @@ entry_messages options table = flat_map (λ entry. found_messages (resolution op
 
 -- the messages of the files to which they lead, in the order of the entries
 abbrev pub file_messages : Options → List (Question × Answer) → List Message
-file_messages options table = flat_map (λ entry. load_messages (load_of table (resolution options table entry))) options.entries
+file_messages options table = flat_map (λ entry. load_messages (load_of options table (resolution options table entry))) options.entries
 
 -- ---- files
 
@@ -85,7 +85,7 @@ copied_by path (Some (loaded.Refused message)) = []
 
 -- the outputs in the order of the entries, each as its path and its contents
 abbrev pub copied : Options → List (Question × Answer) → List (List ℕ × List ℕ)
-copied options table = flat_map (λ entry. copied_by (out_path options entry) (load_of table (resolution options table entry))) options.entries
+copied options table = flat_map (λ entry. copied_by (out_path options entry) (load_of options table (resolution options table entry))) options.entries
 
 abbrev pub out_file : List ℕ × List ℕ → OutFile
 out_file pair = record { path = pair.0; contents = pair.1 }
@@ -112,7 +112,7 @@ IsFault wanted fault.Memory = Unit {0}
 -- an entry's task has a product, and so has the load of the file to which it leads
 pub record IsEntryComplete (options : Options) (table : List (Question × Answer)) (entry : List ℕ × List ℕ) : Type 0 where
   pub entry_done : is_done (run_entry options table entry) ≡ true
-  pub load_done : (name : FileName) (marked : Bool) → run_entry options table entry ≡ run_of.Done (product.Entry (resolved.To name marked)) → is_done (run_load table name) ≡ true
+  pub load_done : (name : FileName) (marked : Bool) → run_entry options table entry ≡ run_of.Done (product.Entry (resolved.To name marked)) → is_done (run_load options table name) ≡ true
 
 -- the text by which an entry names its file
 abbrev pub in_text : List ℕ × List ℕ → List ℕ

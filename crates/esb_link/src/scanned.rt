@@ -35,11 +35,11 @@ fn find(
     }
 }
 
-fn load(alloc: Global, table: &Table, name: &FileName) -> Result<Loaded, Memory>
-    requires { is_done (run_load table.now name.now) ≡ true }
-    ensures { IfOk result (λ loaded. run_load table.now name.now ≡ Run.Done (Product.Load loaded)) }
+fn load(alloc: Global, options: &Options, table: &Table, name: &FileName) -> Result<Loaded, Memory>
+    requires { is_done (run_load options.now table.now name.now) ≡ true }
+    ensures { IfOk result (λ loaded. run_load options.now table.now name.now ≡ Run.Done (Product.Load loaded)) }
 {
-    match run_load(alloc, table, name) {
+    match run_load(alloc, options, table, name) {
         Run::Done(Product::Load(loaded)) => Ok(loaded),
         Run::Done(Product::Entry(_)) | Run::Asks(_) => unreachable!(),
         Run::Memory => Err(Memory),
@@ -86,15 +86,15 @@ impl Scanned {
         ensures of_entries { OnOk result (self.new.of_entries
             ≡ self.old.of_entries ++ found_messages (resolution options.now table.now entry.now)) }
         ensures of_files { OnOk result (self.new.of_files
-            ≡ self.old.of_files ++ load_messages (load_of table.now (resolution options.now table.now entry.now))) }
+            ≡ self.old.of_files ++ load_messages (load_of options.now table.now (resolution options.now table.now entry.now))) }
         ensures outputs { OnOk result (self.new.outputs
             ≡ self.old.outputs
-            ++ copied_by (out_path options.now entry.now) (load_of table.now (resolution options.now table.now entry.now))) }
+            ++ copied_by (out_path options.now entry.now) (load_of options.now table.now (resolution options.now table.now entry.now))) }
     {
         match find(alloc, options, table, entry)? {
             Resolved::To { name, .. } => {
                 let path = below(alloc, folder, &entry.1)?;
-                let loaded = load(alloc, table, &name)?;
+                let loaded = load(alloc, options, table, &name)?;
                 self.add_load(path, loaded)
             }
             Resolved::Refused(message) => self.of_entries.push(message),

@@ -1,13 +1,16 @@
 use super::*;
 use esb_ask::{Answer, Question, Table};
-use esb_base::{Blob, Flags, List, Memory, Text};
+use esb_base::{Blob, Flags, List, Loader, Memory, Text};
 use esb_flags::Options;
 use esb_scan::is_complete;
 use std::alloc::Global;
 use std::test::Fail;
 
-/// A build of `b.txt` and `a.txt` in the folder `/w`, to the folder `out`.
-fn options(alloc: Global) -> Result<Options, Memory> {
+/// A build of `b.txt` and `a.txt` in the folder `/w`, to the folder `out`. Files with the extension are copied.
+fn options(alloc: Global, extension: &str) -> Result<Options, Memory> {
+    let mut loaders = List::new(alloc);
+    let extension = Text::of(alloc, extension)?;
+    loaders.push((extension, Loader::Copy))?;
     let mut entries = List::new(alloc);
     entries.push((Text::of(alloc, "")?, Text::of(alloc, "b.txt")?))?;
     entries.push((Text::of(alloc, "")?, Text::of(alloc, "a.txt")?))?;
@@ -21,7 +24,7 @@ fn options(alloc: Global) -> Result<Options, Memory> {
             outdir: Some(Text::of(alloc, "out")?),
             outfile: None,
             splitting: false,
-            loaders: List::new(alloc),
+            loaders,
             externals: List::new(alloc),
             conditions: List::new(alloc),
             entry_names: Text::of(alloc, "")?,
@@ -74,9 +77,14 @@ fn shown(alloc: Global, options: &Options, table: &Table) -> Result<String, Memo
     Ok(out)
 }
 
-/// What the build shows where `b.txt` and `a.txt` got these answers.
-fn built(alloc: Global, b: (Answer, Answer), a: (Answer, Answer)) -> Result<String, Memory> {
-    let options = options(alloc)?;
+/// What the build shows where `b.txt` and `a.txt` got these answers, and files with the extension are copied.
+fn built(
+    alloc: Global,
+    extension: &str,
+    b: (Answer, Answer),
+    a: (Answer, Answer),
+) -> Result<String, Memory> {
+    let options = options(alloc, extension)?;
     let mut table = Table::new(alloc);
     tell(alloc, &mut table, "/w/b.txt", b.0, b.1)?;
     tell(alloc, &mut table, "/w/a.txt", a.0, a.1)?;
@@ -88,7 +96,7 @@ fn files_are_sorted(rt: HostRuntime) -> Result<(), Fail> {
     let alloc = rt.alloc();
     let b = Answer::Bytes(Blob::of(alloc, b"b")?);
     let a = Answer::Bytes(Blob::of(alloc, b"a")?);
-    let text = built(alloc, (Answer::File, b), (Answer::File, a))?;
+    let text = built(alloc, "txt", (Answer::File, b), (Answer::File, a))?;
     assert!(rt; text.as_str() == "/w/out/a.txt\n/w/out/b.txt\n");
     Ok(())
 }
@@ -98,8 +106,22 @@ fn messages_of_entries_come_first(rt: HostRuntime) -> Result<(), Fail> {
     let alloc = rt.alloc();
     let b = (Answer::File, Answer::Missing);
     let a = (Answer::Missing, Answer::Fault);
-    let text = built(alloc, b, a)?;
+    let text = built(alloc, "txt", b, a)?;
     let expected = "Could not resolve \"a.txt\": not found\nCannot read /w/b.txt\n";
     assert!(rt; text.as_str() == expected);
+    Ok(())
+}
+
+#[test]
+fn a_loader_that_lacks(rt: HostRuntime) -> Result<(), Fail> {
+    let alloc = rt.alloc();
+    let b = Answer::Bytes(Blob::of(alloc, b"b")?);
+    let text = built(
+        alloc,
+        "md",
+        (Answer::File, b),
+        (Answer::File, Answer::Fault),
+    )?;
+    assert!(rt; text.as_str() == "Not built yet\nCannot read /w/a.txt\n");
     Ok(())
 }

@@ -37,22 +37,22 @@ module _ {X : Type 0} (test : X → Bool) where
 
 -- ---- one entry
 
-done-from_loaded : (table : List (Question × Answer)) (r : Run) → is_loaded table r ≡ true → is_done r ≡ true
-done-from_loaded table (run_of.Asks asked) e = e
-done-from_loaded table (run_of.Done given) e = refl
-done-from_loaded table run_of.Memory e = e
+done-from_loaded : (options : Options) (table : List (Question × Answer)) (r : Run) → is_loaded options table r ≡ true → is_done r ≡ true
+done-from_loaded options table (run_of.Asks asked) e = e
+done-from_loaded options table (run_of.Done given) e = refl
+done-from_loaded options table run_of.Memory e = e
 
-load-from_loaded : (table : List (Question × Answer)) (r : Run) (name : FileName) (marked : Bool) → is_loaded table r ≡ true → r ≡ run_of.Done (product.Entry (resolved.To name marked)) → is_done (run_load table name) ≡ true
-load-from_loaded table r name marked e is = sym (ap (is_loaded table) is) ∙ e
+load-from_loaded : (options : Options) (table : List (Question × Answer)) (r : Run) (name : FileName) (marked : Bool) → is_loaded options table r ≡ true → r ≡ run_of.Done (product.Entry (resolved.To name marked)) → is_done (run_load options table name) ≡ true
+load-from_loaded options table r name marked e is = sym (ap (is_loaded options table) is) ∙ e
 
-loaded-from_done : (table : List (Question × Answer)) (r : Run) → is_done r ≡ true → ((name : FileName) (marked : Bool) → r ≡ run_of.Done (product.Entry (resolved.To name marked)) → is_done (run_load table name) ≡ true) → is_loaded table r ≡ true
-loaded-from_done table (run_of.Asks asked) done h = done
-loaded-from_done table (run_of.Done (product.Entry (resolved.To name marked))) done h = h name marked refl
-loaded-from_done table (run_of.Done (product.Entry resolved.External)) done h = refl
-loaded-from_done table (run_of.Done (product.Entry resolved.Left)) done h = refl
-loaded-from_done table (run_of.Done (product.Entry (resolved.Refused message))) done h = refl
-loaded-from_done table (run_of.Done (product.Load loading)) done h = refl
-loaded-from_done table run_of.Memory done h = done
+loaded-from_done : (options : Options) (table : List (Question × Answer)) (r : Run) → is_done r ≡ true → ((name : FileName) (marked : Bool) → r ≡ run_of.Done (product.Entry (resolved.To name marked)) → is_done (run_load options table name) ≡ true) → is_loaded options table r ≡ true
+loaded-from_done options table (run_of.Asks asked) done h = done
+loaded-from_done options table (run_of.Done (product.Entry (resolved.To name marked))) done h = h name marked refl
+loaded-from_done options table (run_of.Done (product.Entry resolved.External)) done h = refl
+loaded-from_done options table (run_of.Done (product.Entry resolved.Left)) done h = refl
+loaded-from_done options table (run_of.Done (product.Entry (resolved.Refused message))) done h = refl
+loaded-from_done options table (run_of.Done (product.Load loading)) done h = refl
+loaded-from_done options table run_of.Memory done h = done
 
 -- ---- the table
 
@@ -61,15 +61,15 @@ module _ (options : Options) (table : List (Question × Answer)) where
   numbered entry = run_numbered options table entry
 
   abbrev loaded_at : List ℕ × List ℕ → Bool
-  loaded_at entry = is_loaded table (run_entry options table entry)
+  loaded_at entry = is_loaded options table (run_entry options table entry)
 
   entry_done : all_loaded options table options.entries ≡ true → (number : ℕ) → number < length options.entries → (entry : Option (List ℕ × List ℕ)) → slice_get options.entries number ≡ entry → is_done (numbered entry) ≡ true
   entry_done h number lt None e = refl
-  entry_done h number lt (Some entry) e = done-from_loaded table (run_entry options table entry) (passes_at loaded_at options.entries number entry h e)
+  entry_done h number lt (Some entry) e = done-from_loaded options table (run_entry options table entry) (passes_at loaded_at options.entries number entry h e)
 
-  load_done : all_loaded options table options.entries ≡ true → (number : ℕ) (name : FileName) (marked : Bool) → (entry : Option (List ℕ × List ℕ)) → slice_get options.entries number ≡ entry → numbered entry ≡ run_of.Done (product.Entry (resolved.To name marked)) → is_done (run_load table name) ≡ true
+  load_done : all_loaded options table options.entries ≡ true → (number : ℕ) (name : FileName) (marked : Bool) → (entry : Option (List ℕ × List ℕ)) → slice_get options.entries number ≡ entry → numbered entry ≡ run_of.Done (product.Entry (resolved.To name marked)) → is_done (run_load options table name) ≡ true
   load_done h number name marked None e is = absurd cc
-  load_done h number name marked (Some entry) e is = load-from_loaded table (run_entry options table entry) name marked (passes_at loaded_at options.entries number entry h e) is
+  load_done h number name marked (Some entry) e is = load-from_loaded options table (run_entry options table entry) name marked (passes_at loaded_at options.entries number entry h e) is
 
   pub complete-from_test : all_loaded options table options.entries ≡ true → IsComplete options table
   complete-from_test h = record {
@@ -81,6 +81,6 @@ module _ (options : Options) (table : List (Question × Answer)) where
   test-from_complete complete =
       all_pass loaded_at options.entries
       (λ i entry e.
-      loaded-from_done table (run_entry options table entry)
+      loaded-from_done options table (run_entry options table entry)
       (subst (λ (o : Option (List ℕ × List ℕ)). is_done (numbered o) ≡ true) e (complete.entries i (slice_get_within options.entries i entry e)))
       (λ name marked is. complete.loads i name marked (ap numbered e ∙ is)))

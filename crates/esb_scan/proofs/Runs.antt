@@ -64,7 +64,7 @@ numbered-same options table more given h (Some entry) e =
 -- a larger table that keeps the answers gives the same product
 pub run_same : (options : Options) (table more : List (Question × Answer)) (job : Task) (given : Product) → Extends table more → run options table job ≡ run_of.Done given → run options more job ≡ run_of.Done given
 run_same options table more (task.Entry number) given h e = numbered-same options table more given h (slice_get options.entries number) e
-run_same options table more (task.Load name) given h e = ask-same (question.Read name.path) (λ first. product.Load (loaded_by name.path first)) table more given h e
+run_same options table more (task.Load name) given h e = ask-same (question.Read name.path) (λ first. product.Load (loaded_by options name first)) table more given h e
 
 -- ---- the question that is asked
 
@@ -90,7 +90,7 @@ asks_new options table (task.Entry number) asked e =
     let h = asks_kind options table number asked (slice_get options.entries number) e in
     record { new = h.0; is_trail = h.1; fits = h.2 }
 asks_new options table (task.Load name) asked e =
-    let found = asks-or (question.Read name.path) (λ first. product.Load (loaded_by name.path first)) (answer_to table (question.Read name.path)) asked e in
+    let found = asks-or (question.Read name.path) (λ first. product.Load (loaded_by options name first)) (answer_to table (question.Read name.path)) asked e in
     record {
       new = subst (λ (q : Question). answer_to table q ≡ None) found.1 found.0;
       is_trail = ap (λ (q : Question). q ∷ []) found.1;
@@ -110,7 +110,7 @@ run_fits options table (task.Entry number) given e = by (slice_get options.entri
         let path = entry_path options entry in
         fits-or (question.Kind path) (λ first. product.Entry (resolved_by path entry.1 first)) (task.Entry number) (answer_to table (question.Kind path)) given (λ first. refl) f
 run_fits options table (task.Load name) given e =
-    fits-or (question.Read name.path) (λ first. product.Load (loaded_by name.path first)) (task.Load name) (answer_to table (question.Read name.path)) given (λ first. refl) e
+    fits-or (question.Read name.path) (λ first. product.Load (loaded_by options name first)) (task.Load name) (answer_to table (question.Read name.path)) given (λ first. refl) e
 
 -- the run as defined is never refused
 pub run_never_refused : (options : Options) (table : List (Question × Answer)) (job : Task) → run options table job ≡ run_of.Memory → ⊥
@@ -122,7 +122,7 @@ run_never_refused options table (task.Entry number) e = by (slice_get options.en
         let path = entry_path options entry in
         never-or (question.Kind path) (λ first. product.Entry (resolved_by path entry.1 first)) (answer_to table (question.Kind path)) f
 run_never_refused options table (task.Load name) e =
-    never-or (question.Read name.path) (λ first. product.Load (loaded_by name.path first)) (answer_to table (question.Read name.path)) e
+    never-or (question.Read name.path) (λ first. product.Load (loaded_by options name first)) (answer_to table (question.Read name.path)) e
 
 -- ---- once the question has an answer
 
@@ -145,7 +145,7 @@ done_from_trail options table (task.Entry number) h = by (slice_get options.entr
         let path = entry_path options entry in
         done-or (question.Kind path) (λ first. product.Entry (resolved_by path entry.1 first)) (answer_to table (question.Kind path)) (f (question.Kind path) (one_contains (question.Kind path)))
 done_from_trail options table (task.Load name) h =
-    done-or (question.Read name.path) (λ first. product.Load (loaded_by name.path first)) (answer_to table (question.Read name.path)) (h (question.Read name.path) (one_contains (question.Read name.path)))
+    done-or (question.Read name.path) (λ first. product.Load (loaded_by options name first)) (answer_to table (question.Read name.path)) (h (question.Read name.path) (one_contains (question.Read name.path)))
 
 numbered-kept : (options : Options) (table : List (Question × Answer)) (asked : Question) (given : Answer) (entry : Option (List ℕ × List ℕ)) → run_numbered options table entry ≡ run_of.Asks asked → is_done (run_numbered options (kept table asked given) entry) ≡ true
 numbered-kept options table asked given None e = absurd cc
@@ -159,9 +159,9 @@ numbered-kept options table asked given (Some entry) e =
 pub done-kept_answer : (options : Options) (table : List (Question × Answer)) (job : Task) (asked : Question) (given : Answer) → run options table job ≡ run_of.Asks asked → is_done (run options (kept table asked given) job) ≡ true
 done-kept_answer options table (task.Entry number) asked given e = numbered-kept options table asked given (slice_get options.entries number) e
 done-kept_answer options table (task.Load name) asked given e =
-    let found = asks-or (question.Read name.path) (λ first. product.Load (loaded_by name.path first)) (answer_to table (question.Read name.path)) asked e in
-    subst (λ (q : Question). is_done (run_load (kept table q given) name) ≡ true) found.1
-    (done-kept (question.Read name.path) (λ first. product.Load (loaded_by name.path first)) table given)
+    let found = asks-or (question.Read name.path) (λ first. product.Load (loaded_by options name first)) (answer_to table (question.Read name.path)) asked e in
+    subst (λ (q : Question). is_done (run_load options (kept table q given) name) ≡ true) found.1
+    (done-kept (question.Read name.path) (λ first. product.Load (loaded_by options name first)) table given)
 
 -- ---- further tasks
 

@@ -18,15 +18,15 @@ pub record IsComplete (options : Options) (table : List (Question × Answer)) : 
   pub loads : (number : ℕ) (name : FileName) (marked : Bool) → run options table (task.Entry number) ≡ run_of.Done (product.Entry (resolved.To name marked)) → is_done (run options table (task.Load name)) ≡ true
 
 -- whether a run is done, and with it the load of a file to which it leads
-abbrev pub is_loaded : List (Question × Answer) → Run → Bool
-is_loaded table (run_of.Asks asked) = false
-is_loaded table (run_of.Done (product.Entry (resolved.To name marked))) = is_done (run_load table name)
-is_loaded table (run_of.Done (product.Entry resolved.External)) = true
-is_loaded table (run_of.Done (product.Entry resolved.Left)) = true
-is_loaded table (run_of.Done (product.Entry (resolved.Refused message))) = true
-is_loaded table (run_of.Done (product.Load loading)) = true
-is_loaded table run_of.Memory = false
+abbrev pub is_loaded : Options → List (Question × Answer) → Run → Bool
+is_loaded options table (run_of.Asks asked) = false
+is_loaded options table (run_of.Done (product.Entry (resolved.To name marked))) = is_done (run_load options table name)
+is_loaded options table (run_of.Done (product.Entry resolved.External)) = true
+is_loaded options table (run_of.Done (product.Entry resolved.Left)) = true
+is_loaded options table (run_of.Done (product.Entry (resolved.Refused message))) = true
+is_loaded options table (run_of.Done (product.Load loading)) = true
+is_loaded options table run_of.Memory = false
 
 -- the same as a test: of one entry after the other
 abbrev pub all_loaded : Options → List (Question × Answer) → List (List ℕ × List ℕ) → Bool
-all_loaded options table entries = list_all (λ entry. is_loaded table (run_entry options table entry)) entries
+all_loaded options table entries = list_all (λ entry. is_loaded options table (run_entry options table entry)) entries

@@ -1,6 +1,8 @@
 -- What a task asks over a table of answers, or else what it gives.
-use Rattle.std.specs.Prelude.{◌≡◌, ℕ, Bool, true, false, List, [], ◌∷◌, ◌++◌, Option, Some, None, slice_get, codes}
+use Rattle.std.specs.Prelude.{◌≡◌, ℕ, Bool, true, false, List, [], ◌∷◌, Option, Some, None, slice_get, codes}
 use Rattle.esb_base.specs.declared.file_name.FileName.{FileName}
+use Rattle.esb_base.specs.declared.flags.Loader.{Loader}
+use Rattle.esb_base.specs.declared.flags.Loader.TheVariants as loader
 use Rattle.esb_flags.specs.declared.options.Options.{Options}
 use Rattle.esb_ask.specs.declared.question.Question.{Question}
 use Rattle.esb_ask.specs.declared.question.Question.TheVariants as question
@@ -8,7 +10,6 @@ use Rattle.esb_ask.specs.declared.answer.Answer.{Answer}
 use Rattle.esb_ask.specs.declared.answer.Answer.TheVariants as answer
 use Rattle.esb_ask.specs.declared.task.Task.{Task}
 use Rattle.esb_ask.specs.declared.task.Task.TheVariants as task
-use Rattle.esb_ask.specs.declared.message.Message.{Message}
 use Rattle.esb_ask.specs.declared.product.Product.{Product}
 use Rattle.esb_ask.specs.declared.product.Product.TheVariants as product
 use Rattle.esb_ask.specs.declared.product.Resolved.{Resolved}
@@ -18,7 +19,10 @@ use Rattle.esb_ask.specs.declared.product.Loaded.TheVariants as loaded
 use Rattle.esb_ask.specs.Table.{answer_to}
 use Rattle.esb_scan.specs.declared.run.Run.{Run}
 use Rattle.esb_scan.specs.declared.run.Run.TheVariants as run_of
+use Rattle.esb_scan.specs.Loaders.{loader_of}
+use Rattle.esb_scan.specs.Messages.{cannot_read, not_found, no_loader}
 use Rattle.esb_scan.specs.Paths.{below}
+use Rattle.esb_scan.specs.Unbuilt.{not_built}
 
 -- ---- questions
 
@@ -29,19 +33,6 @@ ask_or (Some first) asked product_by = run_of.Done (product_by first)
 -- a question, or where the table has its answer the product by that answer
 abbrev pub ask : List (Question × Answer) → Question → (Answer → Product) → Run
 ask table asked product_by = ask_or (answer_to table asked) asked product_by
-
--- ---- messages
-
--- a message without a place
-abbrev pub unplaced : List ℕ → Message
-unplaced text = record { text = text; file = []; line = 0; column = 0; length = 0 }
-
-abbrev pub cannot_read : List ℕ → Message
-cannot_read path = unplaced (codes "Cannot read " ++ path)
-
--- 34 is a quotation mark
-abbrev pub not_found : List ℕ → Message
-not_found spec = unplaced (codes "Could not resolve " ++ 34 ∷ spec ++ 34 ∷ codes ": not found")
 
 -- ---- entries
 
@@ -74,25 +65,31 @@ run_numbered options table (Some entry) = run_entry options table entry
 
 -- ---- loads
 
--- what the loading gives by what the file has
-abbrev pub loaded_by : List ℕ → Answer → Loaded
-loaded_by path answer.File = loaded.Refused (cannot_read path)
-loaded_by path answer.Folder = loaded.Refused (cannot_read path)
-loaded_by path answer.Missing = loaded.Refused (cannot_read path)
-loaded_by path answer.TooBig = loaded.Refused (cannot_read path)
-loaded_by path answer.Fault = loaded.Refused (cannot_read path)
-loaded_by path (answer.Bytes contents) = loaded.Copied contents
+-- what the loading gives of a file's contents
+abbrev pub read_by : Options → FileName → List ℕ → Option Loader → Loaded
+read_by options name contents None = loaded.Refused (no_loader options.cwd name)
+read_by options name contents (Some loader.Copy) = loaded.Copied contents
+read_by options name contents (Some other) = loaded.Refused (not_built options.cwd name)
+
+-- What the loading gives by what the file has. Its loader is looked at once the contents are there.
+abbrev pub loaded_by : Options → FileName → Answer → Loaded
+loaded_by options name answer.File = loaded.Refused (cannot_read name.path)
+loaded_by options name answer.Folder = loaded.Refused (cannot_read name.path)
+loaded_by options name answer.Missing = loaded.Refused (cannot_read name.path)
+loaded_by options name answer.TooBig = loaded.Refused (cannot_read name.path)
+loaded_by options name answer.Fault = loaded.Refused (cannot_read name.path)
+loaded_by options name (answer.Bytes contents) = read_by options name contents (loader_of options.flags name.path)
 
 -- the run for a file
-abbrev pub run_load : List (Question × Answer) → FileName → Run
-run_load table name = ask table (question.Read name.path) (λ first. product.Load (loaded_by name.path first))
+abbrev pub run_load : Options → List (Question × Answer) → FileName → Run
+run_load options table name = ask table (question.Read name.path) (λ first. product.Load (loaded_by options name first))
 
 -- ---- tasks
 
 -- what a task asks over the table, or else what it gives
 abbrev pub run : Options → List (Question × Answer) → Task → Run
 run options table (task.Entry number) = run_numbered options table (slice_get options.entries number)
-run options table (task.Load name) = run_load table name
+run options table (task.Load name) = run_load options table name
 
 abbrev pub entry_trail : Options → Option (List ℕ × List ℕ) → List Question
 entry_trail options None = []

@@ -14,12 +14,12 @@ fn is_loaded(
     table: &Table,
     entry: &(Text, Text),
 ) -> Result<bool, Memory>
-    ensures { IfOk result (λ loaded. loaded ≡ is_loaded table.now (run_entry options.now table.now entry.now)) }
+    ensures { IfOk result (λ loaded. loaded ≡ is_loaded options.now table.now (run_entry options.now table.now entry.now)) }
 {
     match run_entry(alloc, options, table, entry) {
         Run::Asks(_) => Ok(false),
         Run::Done(Product::Entry(Resolved::To { name, .. })) => {
-            match run_load(alloc, table, &name) {
+            match run_load(alloc, options, table, &name) {
                 Run::Asks(_) => Ok(false),
                 Run::Done(_) => Ok(true),
                 Run::Memory => Err(Memory),

@@ -1,9 +1,12 @@
 ghost use Rattle.std.specs.Prelude.{◌≡◌, IfOk};
-ghost use Rattle.esb_scan.specs.Run.{run, run_entry, run_load, resolved_by, loaded_by, unplaced, cannot_read, not_found, system_file, IsRun};
+ghost use Rattle.esb_scan.specs.Run.{run, run_entry, run_load, resolved_by, read_by, loaded_by, system_file, IsRun};
 
+use crate::loaders::loader_of;
+use crate::messages::{cannot_read, no_loader, not_found};
 use crate::paths::below;
-use esb_ask::{Answer, Loaded, Message, Product, Question, Resolved, Table, Task};
-use esb_base::{FileName, Memory, Text};
+use crate::unbuilt::not_built;
+use esb_ask::{Answer, Loaded, Product, Question, Resolved, Table, Task};
+use esb_base::{Blob, FileName, Loader, Memory, Text};
 use esb_flags::Options;
 use std::alloc::Global;
 
@@ -16,36 +19,6 @@ pub enum Run {
     Done(Product),
     /// Memory was refused.
     Memory,
-}
-
-fn unplaced(alloc: Global, text: &str) -> Result<Message, Memory>
-    ensures { IfOk result (λ message. message ≡ unplaced text.now) }
-{
-    let text = Text::of(alloc, text)?;
-    let file = Text::of(alloc, "")?;
-    Ok(Message {
-        text,
-        file,
-        line: 0,
-        column: 0,
-        length: 0,
-    })
-}
-
-fn cannot_read(alloc: Global, path: &Text) -> Result<Message, Memory>
-    ensures { IfOk result (λ message. message ≡ cannot_read path.now) }
-{
-    let path = path.as_str();
-    let text = format!(in alloc; "Cannot read {path}")?;
-    unplaced(alloc, text.as_str())
-}
-
-fn not_found(alloc: Global, spec: &Text) -> Result<Message, Memory>
-    ensures { IfOk result (λ message. message ≡ not_found spec.now) }
-{
-    let spec = spec.as_str();
-    let text = format!(in alloc; "Could not resolve \"{spec}\": not found")?;
-    unplaced(alloc, text.as_str())
 }
 
 fn system_file(alloc: Global, path: Text) -> Result<FileName, Memory>
@@ -70,13 +43,39 @@ fn resolved_by(alloc: Global, path: Text, spec: &Text, answer: &Answer) -> Resul
     }
 }
 
-fn loaded_by(alloc: Global, path: &Text, answer: &Answer) -> Result<Loaded, Memory>
-    ensures { IfOk result (λ loaded. loaded ≡ loaded_by path.now answer.now) }
+fn read_by(
+    alloc: Global,
+    options: &Options,
+    name: &FileName,
+    contents: &Blob,
+    loader: Option<Loader>,
+) -> Result<Loaded, Memory>
+    ensures { IfOk result (λ loaded. loaded ≡ read_by options.now name.now contents.now loader) }
+{
+    match loader {
+        None => Ok(Loaded::Refused(no_loader(alloc, &options.cwd, name)?)),
+        Some(Loader::Copy) => Ok(Loaded::Copied(contents.share()?)),
+        Some(Loader::Js | Loader::Json | Loader::Txt | Loader::Empty) => {
+            Ok(Loaded::Refused(not_built(alloc, &options.cwd, name)?))
+        }
+    }
+}
+
+fn loaded_by(
+    alloc: Global,
+    options: &Options,
+    name: &FileName,
+    answer: &Answer,
+) -> Result<Loaded, Memory>
+    ensures { IfOk result (λ loaded. loaded ≡ loaded_by options.now name.now answer.now) }
 {
     match answer {
-        Answer::Bytes(contents) => Ok(Loaded::Copied(contents.share()?)),
+        Answer::Bytes(contents) => {
+            let loader = loader_of(&options.flags, name.path.as_str());
+            read_by(alloc, options, name, contents, loader)
+        }
         Answer::File | Answer::Folder | Answer::Missing | Answer::TooBig | Answer::Fault => {
-            Ok(Loaded::Refused(cannot_read(alloc, path)?))
+            Ok(Loaded::Refused(cannot_read(alloc, &name.path)?))
         }
     }
 }
@@ -100,14 +99,14 @@ fn try_entry(
     }
 }
 
-fn try_load(alloc: Global, table: &Table, name: &FileName) -> Result<Run, Memory>
-    ensures { IfOk result (λ done. done ≡ run_load table.now name.now) }
+fn try_load(alloc: Global, options: &Options, table: &Table, name: &FileName) -> Result<Run, Memory>
+    ensures { IfOk result (λ done. done ≡ run_load options.now table.now name.now) }
 {
     let asked = Question::Read(name.path.share()?);
     match table.get(&asked) {
         None => Ok(Run::Asks(asked)),
         Some(answer) => {
-            let loaded = loaded_by(alloc, &name.path, answer)?;
+            let loaded = loaded_by(alloc, options, name, answer)?;
             Ok(Run::Done(Product::Load(loaded)))
         }
     }
@@ -121,7 +120,7 @@ fn try_task(alloc: Global, options: &Options, table: &Table, task: &Task) -> Res
             None => Ok(Run::Done(Product::Entry(Resolved::Left))),
             Some(entry) => try_entry(alloc, options, table, entry),
         },
-        Task::Load(name) => try_load(alloc, table, name),
+        Task::Load(name) => try_load(alloc, options, table, name),
     }
 }
 
@@ -136,10 +135,10 @@ pub fn run_entry(alloc: Global, options: &Options, table: &Table, entry: &(Text,
 }
 
 /// The run for a file. The task that loads it does the same.
-pub fn run_load(alloc: Global, table: &Table, name: &FileName) -> Run
-    ensures { IsRun (run_load table.now name.now) result }
+pub fn run_load(alloc: Global, options: &Options, table: &Table, name: &FileName) -> Run
+    ensures { IsRun (run_load options.now table.now name.now) result }
 {
-    match try_load(alloc, table, name) {
+    match try_load(alloc, options, table, name) {
         Ok(done) => done,
         Err(Memory) => Run::Memory,
     }

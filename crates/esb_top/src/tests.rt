@@ -404,3 +404,36 @@ fn a_context(rt: HostRuntime) -> Result<(), Fail> {
     assert!(rt; answers(rt.alloc(), &[Some(EMPTY), Some(NEW)], &talk)?);
     Ok(())
 }
+
+#[test]
+fn flags_of_a_build(rt: HostRuntime) -> Result<(), Fail> {
+    let talk: [(&[u8], &[u8]); 5] = [
+        // the flags ["--outdir=a", "--outdir=b"] → {error: "Repeated flag: --outdir=b"}
+        (
+            b"\xaa\0\0\0\0\0\0\0\x06\x07\0\0\0\x0d\0\0\0absWorkingDir\x03\x02\0\0\0/w\x07\0\0\0command\x03\x05\0\0\0build\x07\0\0\0context\x01\0\x07\0\0\0entries\x05\x01\0\0\0\x05\x02\0\0\0\x03\0\0\0\0\x03\x05\0\0\0a.txt\x05\0\0\0flags\x05\x02\0\0\0\x03\x0a\0\0\0--outdir=a\x03\x0a\0\0\0--outdir=b\x03\0\0\0key\x02\x01\0\0\0\x05\0\0\0write\x01\0",
+            b"0\0\0\0\x01\0\0\0\x06\x01\0\0\0\x05\0\0\0error\x03\x19\0\0\0Repeated flag: --outdir=b",
+        ),
+        // the flag "--minify" → {error: "Bad flag: --minify"}
+        (
+            b"\x99\0\0\0\x02\0\0\0\x06\x07\0\0\0\x0d\0\0\0absWorkingDir\x03\x02\0\0\0/w\x07\0\0\0command\x03\x05\0\0\0build\x07\0\0\0context\x01\0\x07\0\0\0entries\x05\x01\0\0\0\x05\x02\0\0\0\x03\0\0\0\0\x03\x05\0\0\0a.txt\x05\0\0\0flags\x05\x01\0\0\0\x03\x08\0\0\0--minify\x03\0\0\0key\x02\x01\0\0\0\x05\0\0\0write\x01\0",
+            b")\0\0\0\x03\0\0\0\x06\x01\0\0\0\x05\0\0\0error\x03\x12\0\0\0Bad flag: --minify",
+        ),
+        // no flags → {error: "Must use outdir"}
+        (
+            b"\x8c\0\0\0\x04\0\0\0\x06\x07\0\0\0\x0d\0\0\0absWorkingDir\x03\x02\0\0\0/w\x07\0\0\0command\x03\x05\0\0\0build\x07\0\0\0context\x01\0\x07\0\0\0entries\x05\x01\0\0\0\x05\x02\0\0\0\x03\0\0\0\0\x03\x05\0\0\0a.txt\x05\0\0\0flags\x05\0\0\0\0\x03\0\0\0key\x02\x01\0\0\0\x05\0\0\0write\x01\0",
+            b"&\0\0\0\x05\0\0\0\x06\x01\0\0\0\x05\0\0\0error\x03\x0f\0\0\0Must use outdir",
+        ),
+        // the flags ["--minify", "--splitting"] → {error: "Not built yet"}
+        (
+            b"\xa9\0\0\0\x06\0\0\0\x06\x07\0\0\0\x0d\0\0\0absWorkingDir\x03\x02\0\0\0/w\x07\0\0\0command\x03\x05\0\0\0build\x07\0\0\0context\x01\0\x07\0\0\0entries\x05\x01\0\0\0\x05\x02\0\0\0\x03\0\0\0\0\x03\x05\0\0\0a.txt\x05\0\0\0flags\x05\x02\0\0\0\x03\x08\0\0\0--minify\x03\x0b\0\0\0--splitting\x03\0\0\0key\x02\x01\0\0\0\x05\0\0\0write\x01\0",
+            b"$\0\0\0\x07\0\0\0\x06\x01\0\0\0\x05\0\0\0error\x03\x0d\0\0\0Not built yet",
+        ),
+        // the flag "--outdir=out" → one message: b.txt, line 1, "Not built yet"
+        (
+            b"\x9d\0\0\0\x08\0\0\0\x06\x07\0\0\0\x0d\0\0\0absWorkingDir\x03\x02\0\0\0/w\x07\0\0\0command\x03\x05\0\0\0build\x07\0\0\0context\x01\0\x07\0\0\0entries\x05\x01\0\0\0\x05\x02\0\0\0\x03\0\0\0\0\x03\x05\0\0\0b.txt\x05\0\0\0flags\x05\x01\0\0\0\x03\x0c\0\0\0--outdir=out\x03\0\0\0key\x02\x01\0\0\0\x05\0\0\0write\x01\0",
+            b"\x88\0\0\0\x09\0\0\0\x06\x02\0\0\0\x06\0\0\0errors\x05\x01\0\0\0\x06\x05\0\0\0\x06\0\0\0column\x02\0\0\0\0\x04\0\0\0file\x03\x05\0\0\0b.txt\x06\0\0\0length\x02\0\0\0\0\x04\0\0\0line\x02\x01\0\0\0\x04\0\0\0text\x03\x0d\0\0\0Not built yet\x0b\0\0\0outputFiles\x05\0\0\0\0",
+        ),
+    ];
+    assert!(rt; answers(rt.alloc(), &[Some(EMPTY)], &talk)?);
+    Ok(())
+}

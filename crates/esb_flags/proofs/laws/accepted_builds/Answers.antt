@@ -2,4 +2,4 @@ use Rattle.esb_flags.proofs.Accepts.{accepted}
 use Rattle.esb_flags.proofs.laws.accepted_builds.Goals as goal
 
 pub returns : goal.returns
-returns c = accepted
+returns c = λ request key options e. (accepted request key options e).0

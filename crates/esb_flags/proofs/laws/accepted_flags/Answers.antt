@@ -1,5 +1,5 @@
-use Rattle.esb_flags.proofs.Asked.{asked_flags}
+use Rattle.esb_flags.proofs.Accepts.{accepted}
 use Rattle.esb_flags.proofs.laws.accepted_flags.Goals as goal
 
 pub returns : goal.returns
-returns c = asked_flags
+returns c = λ request key options e. (accepted request key options e).1

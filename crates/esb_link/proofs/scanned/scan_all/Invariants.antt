@@ -6,6 +6,6 @@ use Rattle.esb_link.proofs.scanned.scan_all.Given as goal
 abbrev pub invariant-loop-entry : goal.invariant-loop-entry
 invariant-loop-entry l = record {
   of_entries : l.scanned.of_entries ++ flat_map (λ entry. found_messages (resolution l.options l.table entry)) (drop l.entry-index l.options.entries) ≡ entry_messages l.options l.table;
-  of_files : l.scanned.of_files ++ flat_map (λ entry. load_messages (load_of l.table (resolution l.options l.table entry))) (drop l.entry-index l.options.entries) ≡ file_messages l.options l.table;
-  outputs : l.scanned.outputs ++ flat_map (λ entry. copied_by (out_path l.options entry) (load_of l.table (resolution l.options l.table entry))) (drop l.entry-index l.options.entries) ≡ copied l.options l.table;
+  of_files : l.scanned.of_files ++ flat_map (λ entry. load_messages (load_of l.options l.table (resolution l.options l.table entry))) (drop l.entry-index l.options.entries) ≡ file_messages l.options l.table;
+  outputs : l.scanned.outputs ++ flat_map (λ entry. copied_by (out_path l.options entry) (load_of l.options l.table (resolution l.options l.table entry))) (drop l.entry-index l.options.entries) ≡ copied l.options l.table;
 }
