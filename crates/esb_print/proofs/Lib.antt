@@ -1,0 +1,13 @@
+pub mod Appending
+pub mod Wide
+pub mod Pieces
+pub mod Bodies
+pub mod Behind
+pub mod Words
+pub mod Literals
+pub mod Signs
+pub mod Numerals
+pub mod Firsts
+pub mod Keeping
+pub mod Placing
+pub mod Rereading

@@ -1,0 +1,4 @@
+pub mod Joints
+pub mod Classes
+pub mod Nodes
+pub mod Whole
