@@ -1,0 +1,3 @@
+pub mod FirstKinds
+pub mod LinkRules
+pub mod AccessRules

@@ -1,0 +1,9 @@
+pub mod PostfixLines
+pub mod Suffixing
+pub mod Forking
+pub mod Below
+pub mod TokenTests
+pub mod LeftEnds
+pub mod UnaryRules
+pub mod Operands
+pub mod LadderRules
