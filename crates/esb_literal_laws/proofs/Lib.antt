@@ -1,0 +1,12 @@
+pub mod Forks
+pub mod Seen
+pub mod Sequences
+pub mod TemplateParts
+pub mod AnyLists
+pub mod NameParts
+pub mod TargetParts
+pub mod MethodParts
+pub mod ObjectParts
+pub mod FunctionParts
+pub mod ClassParts
+pub mod BindingParts

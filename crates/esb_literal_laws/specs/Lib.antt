@@ -1,0 +1,10 @@
+pub mod Forks
+pub mod Templates
+pub mod ElementLists
+pub mod Names
+pub mod Bindings
+pub mod Methods
+pub mod Objects
+pub mod Functions
+pub mod Classes
+pub mod Laws
