@@ -1,0 +1,12 @@
+pub mod Sequels
+pub mod Endings
+pub mod Marks
+pub mod Handed
+pub mod Statements
+pub mod Compounds
+pub mod Declarations
+pub mod Loops
+pub mod Items
+pub mod Exact
+pub mod Within
+pub mod Laws
