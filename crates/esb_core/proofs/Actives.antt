@@ -1,5 +1,5 @@
 -- Which contexts there are, and which builds are active.
-use Rattle.std.proofs.Common.{◌≡◌, ℕ, true, cond, List, [], ◌∷◌, ◌++◌, None, Some, Ok, sym, ap, subst, ◌∙◌, arith, nat_eq}
+use Rattle.std.proofs.Common.{◌≡◌, ℕ, true, false, cond, List, [], ◌∷◌, ◌++◌, None, Some, Ok, sym, ap, subst, ◌∙◌, arith, nat_eq}
 use Rattle.std.specs.Prelude.{IsSome}
 use Rattle.std.specs.Map.{lookup}
 use Rattle.esb_wire.specs.declared.value.Packet.{Packet}
@@ -11,7 +11,7 @@ use Rattle.esb_flags.specs.Command.{asked}
 use Rattle.esb_core.specs.declared.event.Event.{Event}
 use Rattle.esb_core.specs.declared.event.Event.TheVariants as event
 use Rattle.esb_core.specs.Moves.{key_of, refusal}
-use Rattle.esb_core.specs.History.{Begun, met_in, moves_in, contexts, context, active_build, is_legal, replay}
+use Rattle.esb_core.specs.History.{Begun, met_in, moves_in, contexts, context, active_build, closed, outcome, is_legal, replay}
 use Rattle.esb_core.specs.Laws.{Verdict, refused, accepted, verdict_by, verdict_of, verdict, contexts_by, IsActiveBuild}
 use Rattle.esb_core.proofs.Laws.{read-legal}
 use Rattle.esb_core.proofs.Lookups.{without-same}
@@ -29,7 +29,7 @@ active-is events key n legal is =
     record {
       begun = let lt = a.begun in omega (arith, lt, number);
       its_key = ap (λ (b : Begun). b.key) its ∙ a.its_key;
-      unsettled = sym (r.reads.outcomes n) ∙ a.unsettled;
+      unclosed = sym (r.reads.closes n) ∙ a.unclosed;
     }
 
 pub is-active : (events : List Event) (key n : ℕ) → is_legal events ≡ true → IsActiveBuild events key n → active_build events key ≡ Some n
@@ -40,7 +40,14 @@ is-active events key n legal a =
     let lt = a.begun in
     sym (ap (λ (xs : List (ℕ × ℕ)). lookup (nat_eq key) xs) r.reads.active)
     ∙ ap (λ (k : ℕ). lookup (nat_eq k) (replay events).active) (sym (sym (ap (λ (b : Begun). b.key) its) ∙ a.its_key))
-    ∙ r.ordered.known n (omega (arith, lt, number)) (r.reads.outcomes n ∙ a.unsettled)
+    ∙ r.ordered.known n (omega (arith, lt, number)) (r.reads.closes n ∙ a.unclosed)
+
+-- a build that isn't settled isn't closed
+pub unclosed-still : (events : List Event) (n : ℕ) → is_legal events ≡ true → outcome events n ≡ None → closed events n ≡ false
+unclosed-still events n legal none =
+    let r = read-legal events legal in
+    let k = r.ordered.sane n in
+    sym (r.reads.closes n) ∙ k.open_still (r.reads.outcomes n ∙ none)
 
 -- a context that has an active build is there
 pub active-inside : (events : List Event) (key n : ℕ) → is_legal events ≡ true → active_build events key ≡ Some n → IsSome (context events key)

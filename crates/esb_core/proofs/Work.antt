@@ -116,6 +116,8 @@ claimer s (event.Claim (role.Worker v) (job.Scan m u)) may n t is =
       ap (λ c. c && (nat_eq m n && same_task u t)) (eq-eqb v v refl) ∙ ap (λ c. c && same_task u t) parts.0 ∙ same_task-from_equal u t (sym (equal-from_same_task t u parts.1)),
     )
 claimer s (event.Claim (role.Worker v) (job.Link m)) may n t is = absurd (false≢true is)
+claimer s (event.Claim (role.Worker v) (job.Write m)) may n t is = absurd (false≢true is)
+claimer s (event.Written v m f) may n t is = absurd (false≢true is)
 claimer s (event.Claim (role.Door door) j) may n t is = absurd (false≢true may)
 claimer s (event.Arrive packet) may n t is = absurd (false≢true is)
 claimer s event.EndOfInput may n t is = absurd (false≢true is)
@@ -151,6 +153,7 @@ delivers-does w n t event.EndOfInput is = absurd (false≢true is)
 delivers-does w n t (event.Record worker m q a) is = absurd (false≢true is)
 delivers-does w n t (event.Settle worker m o) is = absurd (false≢true is)
 delivers-does w n t event.Pop is = absurd (false≢true is)
+delivers-does w n t (event.Written v m f) is = absurd (false≢true is)
 
 deliverer : (n : ℕ) (t : Task) (e : Event) → does_task n t e ≡ true → (w : ℕ) × (delivers w n t e ≡ true)
 deliverer n t (event.Deliver v m u p) is = (v, ap (λ c. c && (nat_eq m n && same_task u t)) (eq-eqb v v refl) ∙ is)
@@ -160,6 +163,7 @@ deliverer n t event.EndOfInput is = absurd (false≢true is)
 deliverer n t (event.Record worker m q a) is = absurd (false≢true is)
 deliverer n t (event.Settle worker m o) is = absurd (false≢true is)
 deliverer n t event.Pop is = absurd (false≢true is)
+deliverer n t (event.Written v m f) is = absurd (false≢true is)
 
 delivered-by : (n : ℕ) (t : Task) (es : List Event) → list_any (does_task n t) es ≡ true → (w : ℕ) × (list_any (delivers w n t) es ≡ true)
 delivered-by n t [] some = absurd (false≢true some)
@@ -180,6 +184,8 @@ link-claims w n (event.Record worker m q a) is = absurd (false≢true is)
 link-claims w n (event.Deliver worker m u p) is = absurd (false≢true is)
 link-claims w n (event.Settle worker m o) is = absurd (false≢true is)
 link-claims w n event.Pop is = absurd (false≢true is)
+link-claims w n (event.Claim (role.Worker v) (job.Write m)) is = absurd (false≢true is)
+link-claims w n (event.Written v m f) is = absurd (false≢true is)
 
 -- an event gives a task to one worker
 one-worker : (v w n : ℕ) (t : Task) (e : Event) → gives_task v n t e ≡ true → gives_task w n t e ≡ true → v ≡ w
@@ -193,6 +199,8 @@ one-worker v w n t (event.Record worker m q a) is its = absurd (false≢true is)
 one-worker v w n t (event.Deliver worker m u p) is its = absurd (false≢true is)
 one-worker v w n t (event.Settle worker m o) is its = absurd (false≢true is)
 one-worker v w n t event.Pop is its = absurd (false≢true is)
+one-worker v w n t (event.Claim (role.Worker k) (job.Write m)) is its = absurd (false≢true is)
+one-worker v w n t (event.Written k m f) is its = absurd (false≢true is)
 
 -- a task that two workers were given was claimed twice
 two-given : (v w n : ℕ) (t : Task) (es : List Event) → (v ≡ w → ⊥) → list_any (gives_task v n t) es ≡ true → list_any (gives_task w n t) es ≡ true → 2 ≤ count_by (claims_task n t) es
