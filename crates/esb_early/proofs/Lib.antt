@@ -1,0 +1,4 @@
+pub mod Steps
+pub mod PointSteps
+pub mod RuleLines
+pub mod ItemSteps
