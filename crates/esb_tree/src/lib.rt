@@ -22,7 +22,4 @@ pub use statements::{
     Block, CaseClause, Declaration, Else, ElseIf, Finalizer, ForStart, Handler, IfClause,
     MaybeExpression, Statement,
 };
-pub use yields::yield_of;
-
-#[cfg(test)]
-mod tests;
+pub use yields::{yield_of, yield_of_item};

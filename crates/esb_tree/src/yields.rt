@@ -156,3 +156,12 @@ pub fn yield_of(alloc: Global, tree: &Tree) -> Result<List<Token>, Memory>
     put_items(tree.items.as_slice(), &mut out);
     finish(out)
 }
+
+/// The tokens of an item of a module, with one that no bytes spell for each semicolon that was left out.
+pub fn yield_of_item(alloc: Global, item: &ModuleItem) -> Result<List<Token>, Memory>
+    ensures { IfOk result (λ tokens. tokens ≡ spec.tokens_of_item completed item.now) }
+{
+    let mut out = begin(alloc);
+    put_item(item, &mut out);
+    finish(out)
+}
