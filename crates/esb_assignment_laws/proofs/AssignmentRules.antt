@@ -75,7 +75,7 @@ assigning has_in l k.BarAssign h = record { plain = record { operand = refl; ope
 assigning has_in l k.CaretAssign h = record { plain = record { operand = refl; operator = refl }; question = refl; agreed = refl }
 assigning has_in l _ h = cc
 
-plain_ends : (c : Context) (x : Expression) (t : Token) → Plain c.has_in (not t.after_line) t.kind → ends_binary c loosest x t ≡ true
+pub plain_ends : (c : Context) (x : Expression) (t : Token) → Plain c.has_in (not t.after_line) t.kind → ends_binary c loosest x t ≡ true
 plain_ends c x t p = and_both _ _ (or_right (ends_postfix x) _ (false_not _ p.operand)) (false_not _ p.operator)
 
 -- ---- the outside
@@ -133,7 +133,7 @@ unfolding is_choice out-Expression denote.Hole.Carrier.out
 choice_is test question x colon other = refl
 
 module _ (text : Text) (c : Context) where
-  binary_no_choice : {x : Expression} → IsBinary text loosest c x → is_choice x ≡ false
+  pub binary_no_choice : {x : Expression} → IsBinary text loosest c x → is_choice x ≡ false
   unfolding is_choice out-Expression denote.Hole.Carrier.out
   binary_no_choice {x} (unary_expression h) = no_choice_of (out-Expression x) (unary_shape h)
   binary_no_choice (exponentiation first second rest low h powers) = refl

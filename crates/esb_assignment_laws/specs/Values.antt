@@ -35,7 +35,7 @@ use Rattle.esb_tree.specs.Operators.{is_assignment}
 use Rattle.esb_grammar.specs.declared.context.Context.{Context}
 use Rattle.esb_grammar.specs.Edges.{ends_assignment}
 use Rattle.esb_grammar.specs.Grammar.{loosest}
-use Rattle.esb_grammar.specs.Kinds.{is_binding}
+use Rattle.esb_grammar.specs.Kinds.{is_binding, is_star}
 use Rattle.esb_operator_laws.specs.Postfix.{ends_postfix}
 use Rattle.esb_operator_laws.specs.Ends.{left_goes_on, begins_postfix, is_within, ends_binary}
 use Rattle.esb_tree.specs.Operators.{level_of}
@@ -92,9 +92,9 @@ value_goes_on t = is_question t.kind || (is_assignment t.kind || (not t.after_li
 abbrev pub anywhere : Context
 anywhere = record { has_in = true; has_yield = true; has_await = true }
 
--- what a `yield` on its line takes
+-- what a `yield` takes on its line: a value, or `*` and a value
 abbrev pub goes_on_line : Token → Bool
-goes_on_line t = not t.after_line && shows (begins_value anywhere) t.kind
+goes_on_line t = not t.after_line && (is_star t.kind || shows (begins_value anywhere) t.kind)
 
 -- by how an expression ends: with the block of an arrow function or a `yield` alone, with `++` or `--`, or neither
 abbrev pub ends_by : Context → Bool → Bool → Token → Bool

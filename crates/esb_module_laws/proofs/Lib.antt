@@ -1,0 +1,10 @@
+pub mod Small
+pub mod Specified
+pub mod Clauses
+pub mod ItemParts
+pub mod ItemFirst
+pub mod ItemTold
+pub mod ItemRules
+pub mod Imports
+pub mod Tied
+pub mod Whole

@@ -1,4 +1,0 @@
-pub mod Joints
-pub mod Classes
-pub mod Nodes
-pub mod Whole

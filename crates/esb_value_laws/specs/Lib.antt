@@ -1,0 +1,13 @@
+pub mod Ends
+pub mod Yields
+pub mod Bodies
+pub mod Arrows
+pub mod Whole
+pub mod Commas
+pub mod Covers
+pub mod Levels
+pub mod Lets
+pub mod Once
+pub mod Primaries
+pub mod Handed
+pub mod Laws
