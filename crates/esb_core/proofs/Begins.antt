@@ -64,6 +64,7 @@ one-at-most before (event.Record worker n q a) = inl refl
 one-at-most before (event.Deliver worker n t p) = inl refl
 one-at-most before (event.Settle worker n o) = inl refl
 one-at-most before event.Pop = inl refl
+one-at-most before (event.Written worker n f) = inl refl
 
 extended : (es : List Event) (e : Event) (n : ℕ) → n < length (builds es) → IsBegunBy es n → IsBegunBy (es ++ e ∷ []) n
 extended es e n lt h = record {

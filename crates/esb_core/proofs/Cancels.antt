@@ -13,7 +13,7 @@ use Rattle.esb_core.specs.Sizes.{too_large}
 use Rattle.esb_core.specs.Allowed.{allowed, has_begun, may_settle}
 use Rattle.esb_core.specs.History.{Begun, active_build, builds, build, or_later, outcome, is_legal, is_legal_from, replay}
 use Rattle.esb_core.specs.Laws.{Verdict, refused, accepted, verdict, large_if, overfull, overopened, canceled_if, settled_by, settles, Cancels, IsSettledBy, IsCanceledBy}
-use Rattle.esb_core.proofs.Actives.{active-is, is-active}
+use Rattle.esb_core.proofs.Actives.{active-is, is-active, unclosed-still}
 use Rattle.esb_core.proofs.Begins.{build-stays}
 use Rattle.esb_core.proofs.Claims.{both_parts}
 use Rattle.esb_core.proofs.Ends.{settled-earliest, earliest-settled, no-settling, none-settles}
@@ -79,7 +79,7 @@ canceled-by events n legal is = by h.by h.at h.gives
           request = request;
           cancels = subst (λ (k : ℕ). Cancels (verdict h.before p) k) (sym active.its_key ∙ ap (λ (b : Begun). b.key) (sym stays)) found.cancels;
           begun = active.begun;
-          unsettled = active.unsettled;
+          unsettled = none-settles h.before n h.earliest;
         }
     arrives p at false request gives = not_none outcomes.Canceled (sym gives)
 
@@ -104,6 +104,7 @@ canceled-by events n legal is = by h.by h.at h.gives
     by (event.Record worker m q a) at gives = large (nat_eq m n) (overfull h.before m q a) gives
     by (event.Deliver worker m t p) at gives = large (nat_eq m n) (overopened h.before m p) gives
     by event.Pop at gives = not_none outcomes.Canceled (sym gives)
+    by (event.Written worker m f) at gives = not_none outcomes.Canceled (sym gives)
 
 pub by-cancel : (events : List Event) (n : ℕ) → is_legal events ≡ true → IsCanceledBy events n → outcome events n ≡ Some outcomes.Canceled
 by-cancel events n legal h =
@@ -123,7 +124,7 @@ by-cancel events n legal h =
     stays = ap (λ (es : List Event). build es n) h.at ∙ build-stays h.before (event.Arrive h.packet ∷ h.more) n h.begun
 
     active : active_build h.before (build events n).key ≡ Some n
-    active = is-active h.before (build events n).key n before_legal (record { begun = h.begun; its_key = ap (λ (b : Begun). b.key) (sym stays); unsettled = h.unsettled })
+    active = is-active h.before (build events n).key n before_legal (record { begun = h.begun; its_key = ap (λ (b : Begun). b.key) (sym stays); unclosed = unclosed-still h.before n before_legal h.unsettled })
 
     own : canceled_if n (active_build h.before (build events n).key) ≡ Some outcomes.Canceled
     own = ap (λ (o : Option ℕ). canceled_if n o) active ∙ ap (λ t. cond t (Some outcomes.Canceled) None) (self n)

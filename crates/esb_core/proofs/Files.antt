@@ -6,8 +6,8 @@ use Rattle.esb_core.specs.declared.event.Event.{Event}
 use Rattle.esb_core.specs.declared.event.Event.TheVariants as event
 use Rattle.esb_core.specs.State.{Building, State, build_at, start}
 use Rattle.esb_core.specs.Sizes.{files, most_files}
-use Rattle.esb_core.specs.Moves.{Move, make, remove, begin, join, owe, keep, assign, close, take}
-use Rattle.esb_core.specs.Steps.{entry_tasks, moved, all_moved, after, worked, moves, fresh, joined, answered, tasked, ended_by, released, unclaimed, task_claimed, link_claimed}
+use Rattle.esb_core.specs.Moves.{Move, make, remove, begin, retire, join, owe, keep, assign, settle, write, close, take}
+use Rattle.esb_core.specs.Steps.{entry_tasks, moved, all_moved, after, worked, moves, fresh, joined, answered, tasked, ended_by, written_by, closed_by, write_claimed, released, unclaimed, task_claimed, link_claimed}
 use Rattle.esb_core.specs.History.{is_legal, replay}
 use Rattle.esb_core.proofs.Adding.{entries-files}
 use Rattle.esb_core.proofs.Each.{each-set, each-push}
@@ -32,11 +32,14 @@ moved-few : (s : State) (m : Move) → Fits s m → AllHaveFew s → AllHaveFew 
 moved-few s (make key options) f h = h
 moved-few s (remove key) f h = h
 moved-few s (begin n key options) f h = each-push HasFew s.builds (fresh key options) h (λ k none. few-entries (length options.entries))
-moved-few s (join n id) f h = each-set HasFew s.builds n (joined (build_at s.builds n) id) h (h n)
+moved-few s (retire key) f h = h
+moved-few s (join n id result) f h = each-set HasFew s.builds n (joined (build_at s.builds n) id result) h (h n)
 moved-few s (owe o) f h = h
 moved-few s (keep n q a) f h = each-set HasFew s.builds n (answered (build_at s.builds n) q a) h (h n)
 moved-few s (assign n t) f h = let few = f.few in each-set HasFew s.builds n (tasked (build_at s.builds n) t) h (not-over most_files (files (tasked (build_at s.builds n) t).tasks) few)
-moved-few s (close key n o) f h = each-set HasFew s.builds n (ended_by (build_at s.builds n) o) h (h n)
+moved-few s (settle n o) f h = each-set HasFew s.builds n (ended_by (build_at s.builds n) o) h (h n)
+moved-few s (write n g) f h = each-set HasFew s.builds n (written_by (build_at s.builds n) g) h (h n)
+moved-few s (close key n) f h = each-set HasFew s.builds n (closed_by (build_at s.builds n)) h (h n)
 moved-few s take f h = h
 
 all_moved-few : (s : State) (ms : List Move) → AllFit s ms → AllHaveFew s → AllHaveFew (all_moved s ms)
@@ -46,7 +49,9 @@ all_moved-few s (m ∷ ms) f h = all_moved-few (moved s m) ms f.1 (moved-few s m
 worked-few : (s : State) (e : Event) → AllHaveFew s → AllHaveFew (worked s e)
 worked-few s (event.Claim (role.Worker worker) (job.Scan n t)) h = each-set HasFew s.builds n (task_claimed (build_at s.builds n) worker t) h (h n)
 worked-few s (event.Claim (role.Worker worker) (job.Link n)) h = each-set HasFew s.builds n (link_claimed (build_at s.builds n) worker) h (h n)
+worked-few s (event.Claim (role.Worker worker) (job.Write n)) h = each-set HasFew s.builds n (write_claimed (build_at s.builds n) worker) h (h n)
 worked-few s (event.Claim (role.Door door) j) h = h
+worked-few s (event.Written worker n f) h = h
 worked-few s (event.Deliver worker n t p) h = each-set HasFew s.builds n (unclaimed (build_at s.builds n) worker t) h (h n)
 worked-few s (event.Settle worker n o) h = each-set HasFew s.builds n (released (build_at s.builds n) worker) h (h n)
 worked-few s event.EndOfInput h = h

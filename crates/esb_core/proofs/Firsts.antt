@@ -111,6 +111,7 @@ settled-silent es n o (event.Claim role job) is = refl
 settled-silent es n o (event.Deliver worker m t p) is = refl
 settled-silent es n o (event.Settle worker m p) is = refl
 settled-silent es n o event.Pop is = refl
+settled-silent es n o (event.Written worker m f) is = refl
 
 pub table-stays : (es fs : List Event) (n : ℕ) (o : Outcome) → outcome es n ≡ Some o → table (es ++ fs) n ≡ table es n
 table-stays es fs n o is = each (λ gs. table (es ++ gs) n ≡ table es n) (ap (λ (xs : List Event). table xs n) (append-nil es)) step fs
@@ -149,6 +150,7 @@ silent es n q (event.Claim role job) other = refl
 silent es n q (event.Deliver worker m t p) other = refl
 silent es n q (event.Settle worker m o) other = refl
 silent es n q event.Pop other = refl
+silent es n q (event.Written worker m f) other = refl
 
 left-false : (a b : Bool) → (a || b) ≡ false → a ≡ false
 left-false true b e = absurd (false≢true (sym e))
@@ -234,6 +236,7 @@ none-answered events n q = each (λ es. outcome es n ≡ None → answer_to (tab
         own (event.Deliver worker m t p) is = refl
         own (event.Settle worker m o) is = refl
         own event.Pop is = refl
+        own (event.Written worker m f) is = refl
 
 extended : (es : List Event) (e : Event) (n : ℕ) (q : Question) (a : Answer) → IsAnsweredBy es n q a → IsAnsweredBy (es ++ e ∷ []) n q a
 extended es e n q a h = record {
@@ -291,6 +294,7 @@ kept-earliest events n q = each (λ es. (a : Answer) → answer_to (table es n) 
         own (event.Claim role job) same none true it = absurd (false≢true it)
         own (event.Deliver worker m t p) same none true it = absurd (false≢true it)
         own (event.Settle worker m o) same none true it = absurd (false≢true it)
+        own (event.Written worker m f) same none true it = absurd (false≢true it)
         own event.Pop same none true it = absurd (false≢true it)
 
         by : (r : Option Answer) → answer_to (table es n) q ≡ r → IsAnsweredBy (es ++ e ∷ []) n q a

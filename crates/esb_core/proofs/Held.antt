@@ -26,7 +26,7 @@ use Rattle.esb_core.specs.Steps.{after, moves, all_moved, fresh, joined, answere
 use Rattle.esb_core.specs.Allowed.{allowed, has_begun, first_job, names_job, has_task, is_linker, has_claim, may_settle}
 use Rattle.esb_core.specs.History.{is_legal, replay}
 use Rattle.esb_core.specs.Work.{claims_task, gives_task, gives_link, delivers, settles_by, holds_task, holds_link, HoldsTask}
-use Rattle.esb_core.proofs.Claims.{claim-is, scan-is, link-is, both_parts}
+use Rattle.esb_core.proofs.Claims.{claim-is, scan-is, link-is, write-is, both_parts}
 use Rattle.esb_core.proofs.Each.{each-all_moved, claims-stay}
 use Rattle.esb_core.proofs.Laws.{all_moved-longer}
 use Rattle.esb_core.proofs.Moving.{count-push}
@@ -123,6 +123,8 @@ gives-claims w n t (event.Claim (role.Worker v) (job.Scan m u)) is =
     let more = both_parts (nat_eq m n) (same_task u t) parts.1 in
     ap (λ c. c && same_task t u) more.0 ∙ same_task-from_equal t u (sym (equal-from_same_task u t more.1))
 gives-claims w n t (event.Claim (role.Worker v) (job.Link m)) is = absurd (false≢true is)
+gives-claims w n t (event.Claim (role.Worker v) (job.Write m)) is = absurd (false≢true is)
+gives-claims w n t (event.Written v m f) is = absurd (false≢true is)
 gives-claims w n t (event.Claim (role.Door door) j) is = absurd (false≢true is)
 gives-claims w n t (event.Arrive packet) is = absurd (false≢true is)
 gives-claims w n t event.EndOfInput is = absurd (false≢true is)
@@ -369,10 +371,12 @@ elsewhere-end v n m apart w = ap (λ c. nat_eq v w && c) apart ∙ and-false (na
 moved-held : (s : State) (ms : List Move) (es : List Event) → AreHeld s.builds es → (let t : State = all_moved s ms in AreHeld t.builds es)
 moved-held s ms es all =
     each-all_moved (λ n b. IsHeld b n es) (λ n key options h. same-held no_build (fresh key options) n es refl refl (λ none. refl) h)
-    (λ n b id h. same-held b (joined b id) n es refl refl (λ none. none) h)
+    (λ n b id result h. same-held b (joined b id result) n es refl refl (λ none. none) h)
     (λ n b q a h. same-held b (answered b q a) n es refl refl (λ none. none) h)
     (λ n b t h. same-held b (tasked b t) n es refl refl (λ none. none) h)
     (λ n b o h. same-held b (ended_by b o) n es refl refl (λ none. absurd (let f : ⊥ = cc in f)) h)
+    (λ n b f h. same-held b (Steps.written_by b f) n es refl refl (λ none. none) h)
+    (λ n b h. same-held b (Steps.closed_by b) n es refl refl (λ none. none) h)
     s ms all
 
 module _ (s : State) (es : List Event) (all : AreHeld s.builds es) where
@@ -398,6 +402,13 @@ module _ (s : State) (es : List Event) (all : AreHeld s.builds es) where
       none_of : (o : Option ℕ) → is_none o ≡ true → o ≡ None
       none_of None e = refl
       none_of (Some k) e = absurd (false≢true e)
+  claims-held (role.Worker v) (job.Write n) may new =
+      set-held s.builds n (Steps.write_claimed (build_at s.builds n) v) (es ++ event.Claim (role.Worker v) (job.Write n) ∷ []) (write-is s.builds n (claim-is s v (job.Write n) may)).begun
+      (apart-held (Steps.write_claimed (build_at s.builds n) v) n es (event.Claim (role.Worker v) (job.Write n)) no_claim (same-held (build_at s.builds n) (Steps.write_claimed (build_at s.builds n) v) n es refl refl (λ none. none) (all n)))
+      (λ m apart. apart-held (build_at s.builds m) m es (event.Claim (role.Worker v) (job.Write n)) (record { give = λ w u. refl; link = λ w. refl; give_back = λ w u. refl; settle = λ w. refl }) (all m))
+    where
+      no_claim : IsApart n (event.Claim (role.Worker v) (job.Write n))
+      no_claim = record { give = λ w u. refl; link = λ w. refl; give_back = λ w u. refl; settle = λ w. refl }
   claims-held (role.Door door) j may new = absurd (false≢true may)
 
   back-changes : (v n : ℕ) (t : Task) (p : Product) → n < length s.builds → has_task (build_at s.builds n) v t ≡ true
@@ -435,6 +446,9 @@ step-held s es (event.Record worker n q a) all may new =
     idle (all_moved s (moves s (event.Record worker n q a))) es (moved-held s (moves s (event.Record worker n q a)) es all) (event.Record worker n q a)
     (λ k. record { give = λ w t. refl; link = λ w. refl; give_back = λ w t. refl; settle = λ w. refl })
 step-held s es event.EndOfInput all may new = idle s es all event.EndOfInput (λ n. record { give = λ w t. refl; link = λ w. refl; give_back = λ w t. refl; settle = λ w. refl })
+step-held s es (event.Written worker n f) all may new =
+    idle (all_moved s (moves s (event.Written worker n f))) es (moved-held s (moves s (event.Written worker n f)) es all) (event.Written worker n f)
+    (λ k. record { give = λ w t. refl; link = λ w. refl; give_back = λ w t. refl; settle = λ w. refl })
 step-held s es event.Pop all may new =
     idle (all_moved s (moves s event.Pop)) es (moved-held s (moves s event.Pop) es all) event.Pop (λ n. record { give = λ w t. refl; link = λ w. refl; give_back = λ w t. refl; settle = λ w. refl })
 
@@ -468,7 +482,7 @@ past-end (b ∷ bs) zero over = absurd (omega arith)
 past-end (b ∷ bs) (suc n) over = past-end bs n (omega arith)
 
 -- what holds of no build is of one that has begun
-begun-too : (bs : List Building) (n : ℕ) (f : Building → Bool) → f no_build ≡ false → (nat_lt n (length bs) && f (build_at bs n)) ≡ f (build_at bs n)
+pub begun-too : (bs : List Building) (n : ℕ) (f : Building → Bool) → f no_build ≡ false → (nat_lt n (length bs) && f (build_at bs n)) ≡ f (build_at bs n)
 begun-too bs n f none = by (nat_lt n (length bs)) refl
   where
     by : (t : Bool) → nat_lt n (length bs) ≡ t → (t && f (build_at bs n)) ≡ f (build_at bs n)

@@ -1,25 +1,28 @@
 -- Each legal list has a state in which the questions about its moves have their answers.
-use Rattle.std.proofs.Common.{◌≡◌, ℕ, ◌<◌, ◌≤◌, true, cond, ◌&&◌, List, [], ◌∷◌, ◌++◌, length, Option, None, Some, Ok, Err, refl, sym, ap, subst, ◌∙◌, arith, ltb-true, length-append}
+use Rattle.std.proofs.Common.{◌≡◌, ℕ, ◌<◌, ◌≤◌, Bool, true, false, cond, ◌&&◌, List, [], ◌∷◌, ◌++◌, length, Option, None, Some, is_some, Ok, Err, refl, sym, ap, subst, ◌∙◌, arith, ltb-true, length-append}
 use Rattle.std.proofs.lemmas.List.{length-set}
+use Rattle.std.proofs.lemmas.Bool.{false≢true}
+use Rattle.esb_flags.specs.declared.options.Options.{Options}
 use Rattle.esb_flags.specs.declared.command.Command.{Command}
 use Rattle.esb_flags.specs.Fields.{Answer as Asked}
 use Rattle.esb_flags.specs.Command.{asked}
 use Rattle.esb_ask.specs.declared.task.Task.{Task}
 use Rattle.esb_ask.specs.declared.product.Product.{Product}
 use Rattle.esb_ask.specs.declared.outcome.Outcome.{Outcome}
+use Rattle.esb_ask.specs.declared.outcome.Outcome.TheVariants as outcomes
 use Rattle.esb_ask.specs.Tasks.{product_fits}
 use Rattle.esb_core.specs.declared.event.Job.TheVariants as job
 use Rattle.esb_core.specs.declared.event.Role.TheVariants as role
 use Rattle.esb_core.specs.declared.event.Event.{Event}
 use Rattle.esb_core.specs.declared.event.Event.TheVariants as event
 use Rattle.esb_core.specs.State.{Building, State, build_at, start}
-use Rattle.esb_core.specs.Moves.{Move, make, remove, begin, join, owe, keep, assign, close, take, Met, Standing, key_of, commanded, requested, kept_unless, opened_unless, closed_unless}
+use Rattle.esb_core.specs.Moves.{Move, make, remove, begin, join, owe, keep, assign, settle, write, retire, close, take, Met, Standing, key_of, commanded, requested, kept_unless, opened_unless, settled_unless, closed}
 use Rattle.esb_core.specs.Sizes.{named}
-use Rattle.esb_core.specs.Steps.{moved, all_moved, after, worked, moves, fresh, joined, answered, tasked, ended_by, released, unclaimed, task_claimed, link_claimed, met}
+use Rattle.esb_core.specs.Steps.{moved, all_moved, after, worked, moves, fresh, joined, answered, tasked, ended_by, written_by, closed_by, write_claimed, released, unclaimed, task_claimed, link_claimed, met}
 use Rattle.esb_core.specs.Allowed.{allowed, has_begun, has_task, may_settle}
-use Rattle.esb_core.specs.Order.{IsOrdered}
+use Rattle.esb_core.specs.Order.{IsOrdered, IsSane}
 use Rattle.esb_core.specs.History.{moves_after, moves_in, met_in, is_legal, replay, StandsFor}
-use Rattle.esb_core.proofs.Claims.{claim-is, scan-is, link-is, both_parts}
+use Rattle.esb_core.proofs.Claims.{IsToWrite, IsWritable, claim-is, scan-is, link-is, write-is, both_parts}
 use Rattle.esb_core.proofs.Moving.{moves-push}
 use Rattle.esb_core.proofs.Orders.{all_moved-ordered, changed-ordered, ordered-as, event-fits}
 use Rattle.esb_core.proofs.Readings.{Reads, all_moved-reads, changed-reads, met-read, standing-read}
@@ -41,7 +44,8 @@ requested-read s ms id (Ok c) r = ap (λ (m : Met). commanded m id c) (met-read 
 pub moves-read : (s : State) (ms : List Move) (e : Event) → Reads s ms → moves s e ≡ moves_after ms e
 moves-read s ms (event.Arrive p) r = ap (λ (ns : List Move). cond p.request ns []) (requested-read s ms p.id (asked p.value) r)
 moves-read s ms (event.Record worker n q a) r = ap (λ (t : Standing). kept_unless t n q a t.outcome) (standing-read s ms n r)
-moves-read s ms (event.Settle worker n o) r = ap (λ (t : Standing). closed_unless t n o t.outcome) (standing-read s ms n r)
+moves-read s ms (event.Settle worker n o) r = ap (λ (t : Standing). settled_unless t n o t.outcome) (standing-read s ms n r)
+moves-read s ms (event.Written worker n f) r = ap (λ (t : Standing). write n f ∷ closed t.key t.stays n) (standing-read s ms n r)
 moves-read s ms event.Pop r = refl
 moves-read s ms event.EndOfInput r = refl
 moves-read s ms (event.Claim role job) r = refl
@@ -54,11 +58,14 @@ moved-longer : (s : State) (m : Move) → length s.builds ≤ length (moved s m)
 moved-longer s (make key options) = omega arith
 moved-longer s (remove key) = omega arith
 moved-longer s (begin n key options) = let long = length-append s.builds (fresh key options ∷ []) in omega (arith, long)
-moved-longer s (join n id) = let long = length-set s.builds n (joined (build_at s.builds n) id) in omega (arith, long)
+moved-longer s (retire key) = omega arith
+moved-longer s (join n id result) = let long = length-set s.builds n (joined (build_at s.builds n) id result) in omega (arith, long)
 moved-longer s (owe o) = omega arith
 moved-longer s (keep n q a) = let long = length-set s.builds n (answered (build_at s.builds n) q a) in omega (arith, long)
 moved-longer s (assign n t) = let long = length-set s.builds n (tasked (build_at s.builds n) t) in omega (arith, long)
-moved-longer s (close key n o) = let long = length-set s.builds n (ended_by (build_at s.builds n) o) in omega (arith, long)
+moved-longer s (settle n o) = let long = length-set s.builds n (ended_by (build_at s.builds n) o) in omega (arith, long)
+moved-longer s (write n f) = let long = length-set s.builds n (written_by (build_at s.builds n) f) in omega (arith, long)
+moved-longer s (close key n) = let long = length-set s.builds n (closed_by (build_at s.builds n)) in omega (arith, long)
 moved-longer s take = omega arith
 
 pub all_moved-longer : (s : State) (ms : List Move) → length s.builds ≤ length (all_moved s ms).builds
@@ -69,7 +76,9 @@ all_moved-longer s (m ∷ ms) = let one = moved-longer s m in let rest = all_mov
 pub IsWorkedOn : State → Event → Type 0
 IsWorkedOn s (event.Claim (role.Worker worker) (job.Scan n t)) = n < length s.builds
 IsWorkedOn s (event.Claim (role.Worker worker) (job.Link n)) = n < length s.builds
+IsWorkedOn s (event.Claim (role.Worker worker) (job.Write n)) = IsWritable s.builds n
 IsWorkedOn s (event.Claim (role.Door door) j) = Unit {0}
+IsWorkedOn s (event.Written worker n f) = Unit {0}
 IsWorkedOn s (event.Deliver worker n t p) = n < length s.builds
 IsWorkedOn s (event.Settle worker n o) = n < length s.builds
 IsWorkedOn s (event.Arrive p) = Unit {0}
@@ -81,7 +90,9 @@ pub works-on : (s : State) (e : Event) → allowed s e ≡ true → IsWorkedOn (
 unfolding IsWorkedOn
 works-on s (event.Claim (role.Worker worker) (job.Scan n t)) may = (scan-is s.builds n t (claim-is s worker (job.Scan n t) may)).begun
 works-on s (event.Claim (role.Worker worker) (job.Link n)) may = (link-is s.builds n (claim-is s worker (job.Link n) may)).begun
+works-on s (event.Claim (role.Worker worker) (job.Write n)) may = write-is s.builds n (claim-is s worker (job.Write n) may)
 works-on s (event.Claim (role.Door door) j) may = tt
+works-on s (event.Written worker n f) may = tt
 works-on s (event.Deliver worker n t p) may =
     let lt = ltb-true n (length s.builds) (both_parts (has_begun s n) (has_task (build_at s.builds n) worker t && product_fits t p) may).0 in
     let longer = all_moved-longer s (moves s (event.Deliver worker n t p)) in
@@ -97,23 +108,52 @@ works-on s event.Pop may = tt
 
 worked-reads : (s : State) (ms : List Move) (e : Event) → IsWorkedOn s e → Reads s ms → Reads (worked s e) ms
 unfolding IsWorkedOn
-worked-reads s ms (event.Claim (role.Worker worker) (job.Scan n t)) lt r = changed-reads s ms n (task_claimed (build_at s.builds n) worker t) lt refl refl refl refl refl r
-worked-reads s ms (event.Claim (role.Worker worker) (job.Link n)) lt r = changed-reads s ms n (link_claimed (build_at s.builds n) worker) lt refl refl refl refl refl r
+worked-reads s ms (event.Claim (role.Worker worker) (job.Scan n t)) lt r = changed-reads s ms n (task_claimed (build_at s.builds n) worker t) lt refl refl refl refl refl refl refl r
+worked-reads s ms (event.Claim (role.Worker worker) (job.Link n)) lt r = changed-reads s ms n (link_claimed (build_at s.builds n) worker) lt refl refl refl refl refl refl refl r
+worked-reads s ms (event.Claim (role.Worker worker) (job.Write n)) on r = changed-reads s ms n (write_claimed (build_at s.builds n) worker) on.begun refl refl refl refl refl refl refl r
 worked-reads s ms (event.Claim (role.Door door) j) lt r = r
-worked-reads s ms (event.Deliver worker n t p) lt r = changed-reads s ms n (unclaimed (build_at s.builds n) worker t) lt refl refl refl refl refl r
-worked-reads s ms (event.Settle worker n o) lt r = changed-reads s ms n (released (build_at s.builds n) worker) lt refl refl refl refl refl r
-worked-reads s ms event.EndOfInput lt r = record { contexts = r.contexts; active = r.active; begun = r.begun; waiting = r.waiting; outcomes = r.outcomes; tables = r.tables; lists = r.lists; owed = r.owed; enough = r.enough }
+worked-reads s ms (event.Written worker n f) lt r = r
+worked-reads s ms (event.Deliver worker n t p) lt r = changed-reads s ms n (unclaimed (build_at s.builds n) worker t) lt refl refl refl refl refl refl refl r
+worked-reads s ms (event.Settle worker n o) lt r = changed-reads s ms n (released (build_at s.builds n) worker) lt refl refl refl refl refl refl refl r
+worked-reads s ms event.EndOfInput lt r = record { contexts = r.contexts; retired = r.retired; active = r.active; begun = r.begun; waiting = r.waiting; outcomes = r.outcomes; closes = r.closes; failures = r.failures; tables = r.tables; lists = r.lists; owed = r.owed; enough = r.enough }
 worked-reads s ms (event.Arrive p) lt r = r
 worked-reads s ms (event.Record worker n q a) lt r = r
 worked-reads s ms event.Pop lt r = r
 
+-- work leaves whether a build is settled, written and closed
+pub same-sane : {b c : Building} → IsSane b → c.outcome ≡ b.outcome → c.writer ≡ b.writer → c.closed ≡ b.closed → c.failed ≡ b.failed → c.options ≡ b.options → IsSane c
+same-sane k outcome writer closed failed options = record {
+  open_still = λ none. closed ∙ k.open_still (sym outcome ∙ none);
+  unwritten = λ none. writer ∙ k.unwritten (sym outcome ∙ none);
+  writing = λ w some. closed ∙ k.writing w (sym writer ∙ some);
+  put = λ shut puts files is. ap is_some failed ∙ k.put (sym closed ∙ shut) (sym (ap (λ (o : Options). o.write) options) ∙ puts) files (sym outcome ∙ is);
+}
+
+-- a build isn't closed whose files are to be put
+pub unput-unclosed : (b : Building) → IsSane b → IsToWrite b → b.closed ≡ false
+unput-unclosed b k to_write = by b.closed refl
+  where
+    by : (t : Bool) → b.closed ≡ t → t ≡ false
+    by false is = refl
+    by true shut = absurd (false≢true (sym (ap is_some to_write.unput) ∙ k.put shut to_write.writes to_write.files to_write.outcome))
+
+write-sane : (b : Building) (worker : ℕ) → IsToWrite b → IsSane b → IsSane (write_claimed b worker)
+write-sane b worker to_write k = record {
+  open_still = k.open_still;
+  unwritten = λ none. absurd (let e : Some (outcomes.Files to_write.files) ≡ None = sym to_write.outcome ∙ none in let f : ⊥ = cc in f);
+  writing = λ w some. unput-unclosed b k to_write;
+  put = k.put;
+}
+
 pub worked-ordered : (s : State) (e : Event) → IsWorkedOn s e → IsOrdered s → IsOrdered (worked s e)
 unfolding IsWorkedOn
-worked-ordered s (event.Claim (role.Worker worker) (job.Scan n t)) lt h = changed-ordered s n (task_claimed (build_at s.builds n) worker t) lt refl refl h
-worked-ordered s (event.Claim (role.Worker worker) (job.Link n)) lt h = changed-ordered s n (link_claimed (build_at s.builds n) worker) lt refl refl h
+worked-ordered s (event.Claim (role.Worker worker) (job.Scan n t)) lt h = changed-ordered s n (task_claimed (build_at s.builds n) worker t) lt refl refl (same-sane (h.sane n) refl refl refl refl refl) h
+worked-ordered s (event.Claim (role.Worker worker) (job.Link n)) lt h = changed-ordered s n (link_claimed (build_at s.builds n) worker) lt refl refl (same-sane (h.sane n) refl refl refl refl refl) h
+worked-ordered s (event.Claim (role.Worker worker) (job.Write n)) on h = changed-ordered s n (write_claimed (build_at s.builds n) worker) on.begun refl refl (write-sane (build_at s.builds n) worker on.writes (h.sane n)) h
 worked-ordered s (event.Claim (role.Door door) j) lt h = h
-worked-ordered s (event.Deliver worker n t p) lt h = changed-ordered s n (unclaimed (build_at s.builds n) worker t) lt refl refl h
-worked-ordered s (event.Settle worker n o) lt h = changed-ordered s n (released (build_at s.builds n) worker) lt refl refl h
+worked-ordered s (event.Written worker n f) lt h = h
+worked-ordered s (event.Deliver worker n t p) lt h = changed-ordered s n (unclaimed (build_at s.builds n) worker t) lt refl refl (same-sane (h.sane n) refl refl refl refl refl) h
+worked-ordered s (event.Settle worker n o) lt h = changed-ordered s n (released (build_at s.builds n) worker) lt refl refl (same-sane (h.sane n) refl refl refl refl refl) h
 worked-ordered s event.EndOfInput lt h = ordered-as s (record s { ended = true }) refl refl refl h
 worked-ordered s (event.Arrive p) lt h = h
 worked-ordered s (event.Record worker n q a) lt h = h
@@ -138,8 +178,9 @@ at_start = record {
     active = λ key n e. absurd (let h : None ≡ Some n = e in let f : ⊥ = cc in f);
     known = λ n lt none. absurd (omega (arith, lt));
     inside = λ key n e. absurd (let h : None ≡ Some n = e in let f : ⊥ = cc in f);
+    sane = λ n. record { open_still = λ e. refl; unwritten = λ e. refl; writing = λ w e. refl; put = λ shut puts files is. absurd (false≢true shut) };
   };
-  reads = record { contexts = refl; active = refl; begun = refl; waiting = λ n. refl; outcomes = λ n. refl; tables = λ n. refl; lists = λ n. refl; owed = refl; enough = omega arith };
+  reads = record { contexts = refl; retired = refl; active = refl; begun = refl; waiting = λ n. refl; outcomes = λ n. refl; closes = λ n. refl; failures = λ n. refl; tables = λ n. refl; lists = λ n. refl; owed = refl; enough = omega arith };
 }
 
 pub read-legal : (events : List Event) → is_legal events ≡ true → IsRead (replay events) events

@@ -3,6 +3,7 @@ pub mod Adding
 pub mod Begins
 pub mod Cancels
 pub mod Claims
+pub mod Closes
 pub mod Each
 pub mod Ends
 pub mod Entries
@@ -27,3 +28,4 @@ pub mod Shows
 pub mod Tasks
 pub mod Tells
 pub mod Work
+pub mod Writes

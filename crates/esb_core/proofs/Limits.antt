@@ -14,11 +14,11 @@ use Rattle.esb_ask.specs.declared.outcome.Outcome.{Outcome}
 use Rattle.esb_ask.specs.Table.{kept}
 use Rattle.esb_core.specs.declared.event.Event.{Event}
 use Rattle.esb_core.specs.declared.event.Event.TheVariants as event
-use Rattle.esb_core.specs.Moves.{most_builds, most_contexts, most_waiting, key_of, options_of, is_full, too_many, refusal}
+use Rattle.esb_core.specs.Moves.{crowded, most_builds, most_contexts, most_waiting, key_of, options_of, is_full, too_many, refusal}
 use Rattle.esb_core.specs.Sizes.{bytes_in, files, most_answers, most_contents, most_files, is_overfull}
 use Rattle.esb_core.specs.Steps.{without}
-use Rattle.esb_core.specs.History.{Begun, crowd, met_in, moves_in, contexts, context, active_build, builds, build, waiting, outcome, kept_pair, table, is_legal, replay}
-use Rattle.esb_core.specs.Laws.{Verdict, refused, accepted, verdict_by, verdict_of, verdict, if_idle, begins_by, begins, joined_build, if_same, waits_by, waits, gone_if, contexts_by, gone_unless, gone_large, overfull, overopened, answered_if, answers, contexts_at, IsWithinLimits}
+use Rattle.esb_core.specs.History.{Begun, crowd, is_settled_in, met_in, moves_in, contexts, context, active_build, builds, build, waiting, outcome, kept_pair, table, is_legal, replay}
+use Rattle.esb_core.specs.Laws.{Verdict, refused, accepted, verdict_by, verdict_of, verdict, if_idle, begins_by, begins, joined_build, if_same, waits_by, waits, waits_closed, is_settled_build, is_to_write, stays_after, gone_if, contexts_by, gone_unless, gone_large, overfull, overopened, answered_if, answers, contexts_at, IsWithinLimits}
 use Rattle.esb_core.proofs.Grown.{past-end}
 use Rattle.esb_core.proofs.Laws.{read-legal}
 use Rattle.esb_core.proofs.Files.{few-files}
@@ -39,10 +39,13 @@ fewer key (e ∷ xs) = by (nat_eq key e.0) (fewer key xs)
 below : (most n : ℕ) → nat_le most n ≡ false → n < most
 below most n e = grind (arith)
 
-gone-fewer : (key : ℕ) (stays : Bool) (o : Option ℕ) (xs : List (ℕ × Options)) → length (gone_if key stays o xs) ≤ length xs
-gone-fewer key stays None xs = omega arith
-gone-fewer key true (Some n) xs = omega arith
-gone-fewer key false (Some n) xs = fewer key xs
+fewer-unless : (t : Bool) (key : ℕ) (xs : List (ℕ × Options)) → length (cond t xs (without key xs)) ≤ length xs
+fewer-unless true key xs = omega arith
+fewer-unless false key xs = fewer key xs
+
+gone-fewer : (es : List Event) (key : ℕ) (stays : Bool) (o : Option ℕ) (xs : List (ℕ × Options)) → length (gone_if es key stays o xs) ≤ length xs
+gone-fewer es key stays None xs = omega arith
+gone-fewer es key stays (Some n) xs = fewer-unless (is_some (outcome es n) || stays) key xs
 
 -- what a request makes of each number that has a limit
 record Holds (es : List Event) (id : ℕ) (v : Verdict) : Type 0 where
@@ -64,7 +67,7 @@ module _ (es : List Event) (legal : is_legal es ≡ true) (h : AreFew es) where
   calm id v contexts_few no_build no_wait = record {
     few_contexts = let few = h.few_contexts in omega (arith, few, contexts_few);
     few_builds = let few = h.few_builds in let same = ap (λ (bs : List Begun). length (builds es ++ bs)) no_build ∙ ap length (append-nil (builds es)) in omega (arith, few, same);
-    few_waiting = λ n. let few = h.few_waiting n in let same = ap (λ (ids : List ℕ). length (waiting es n ++ ids)) (no_wait n) ∙ ap length (append-nil (waiting es n)) in omega (arith, few, same);
+    few_waiting = λ n. let few = h.few_waiting n in let same = ap (λ (ws : List (ℕ × Bool)). length (waiting es n ++ ws)) (no_wait n) ∙ ap length (append-nil (waiting es n)) in omega (arith, few, same);
   }
 
   -- nothing waits for a build that hasn't begun
@@ -74,18 +77,33 @@ module _ (es : List Event) (legal : is_legal es ≡ true) (h : AreFew es) where
       let number = same-number (replay es) (moves_in es) r.reads in
       ap length (sym (r.reads.waiting (length (builds es))) ∙ past-end (replay es).builds (length (builds es)) (λ b. b.waiting) (omega (arith, number)))
 
-  one-more : (m n id : ℕ) → length (waiting es m) < most_waiting → length (waiting es n ++ if_same m n id) ≤ most_waiting
-  one-more m n id few = by (nat_eq m n) refl
+  one-more : (m n id : ℕ) (result : Bool) → length (waiting es m) < most_waiting → length (waiting es n ++ if_same m n id result) ≤ most_waiting
+  one-more m n id result few = by (nat_eq m n) refl
     where
-      by : (t : Bool) → nat_eq m n ≡ t → length (waiting es n ++ cond t (id ∷ []) []) ≤ most_waiting
+      by : (t : Bool) → nat_eq m n ≡ t → length (waiting es n ++ cond t ((id, result) ∷ []) []) ≤ most_waiting
       by true is =
           let same = ap (λ (k : ℕ). length (waiting es k)) (eqb-true m n is) in
-          let long = length-append (waiting es n) (id ∷ []) in
+          let long = length-append (waiting es n) ((id, result) ∷ []) in
           omega (arith, same, long, few)
       by false is = same-length (waiting es n) most_waiting (h.few_waiting n)
 
-  next-waits : (n id : ℕ) → length (waiting es n ++ if_same (length (builds es)) n id) ≤ most_waiting
-  next-waits n id = one-more (length (builds es)) n id (let none = none-waits in omega (arith, none))
+  next-waits : (n id : ℕ) → length (waiting es n ++ if_same (length (builds es)) n id true) ≤ most_waiting
+  next-waits n id = one-more (length (builds es)) n id true (let none = none-waits in omega (arith, none))
+
+  -- a cancel and a dispose wait for a build that is settled and has room for them
+  stop-waits : (id : ℕ) (o : Option ℕ) → (is_settled_in (moves_in es) o ≡ true → crowd (moves_in es) o < most_waiting) → (n : ℕ) → length (waiting es n ++ waits_closed es n id o) ≤ most_waiting
+  stop-waits id None few n = same-length (waiting es n) most_waiting (h.few_waiting n)
+  stop-waits id (Some m) few n = by (is_some (outcome es m)) refl
+    where
+      by : (t : Bool) → is_some (outcome es m) ≡ t → length (waiting es n ++ cond t (if_same m n id false) []) ≤ most_waiting
+      by true settled = one-more m n id false (few settled)
+      by false settled = same-length (waiting es n) most_waiting (h.few_waiting n)
+
+  stop-few : (key : ℕ) → refusal (met_in (moves_in es) key) (command.Cancel key) ≡ None → is_settled_in (moves_in es) (active_build es key) ≡ true → crowd (moves_in es) (active_build es key) < most_waiting
+  stop-few key e settled =
+      let one = accepts (is_none (context es key) || (met_in (moves_in es) key).retired) (codes "Unknown key") (crowded (met_in (moves_in es) key).settled (met_in (moves_in es) key) ∷ []) e in
+      let two = lasts ((met_in (moves_in es) key).settled && nat_le most_waiting (met_in (moves_in es) key).waiting) (codes "Too many waiters") one.1 in
+      below most_waiting (crowd (moves_in es) (active_build es key)) (second (is_settled_in (moves_in es) (active_build es key)) (nat_le most_waiting (crowd (moves_in es) (active_build es key))) settled two)
 
   one-begins : (b : Begun) → length (builds es) < most_builds → length (builds es ++ b ∷ []) ≤ most_builds
   one-begins b few = let long = length-append (builds es) (b ∷ []) in omega (arith, long, few)
@@ -94,14 +112,14 @@ module _ (es : List Event) (legal : is_legal es ≡ true) (h : AreFew es) where
   build-holds id key options stays is few_contexts few_builds = record {
     few_contexts = let long = length-append (contexts es) ((key, options) ∷ []) in omega (arith, long, few_contexts);
     few_builds = subst (λ (t : Bool). length (builds es ++ cond t [] (record { key = key; options = options } ∷ [])) ≤ most_builds) (sym is) (begun stays refl);
-    few_waiting = λ n. subst (λ (t : Bool). length (waiting es n ++ cond t [] (if_same (length (builds es)) n id)) ≤ most_waiting) (sym is) (waits_one n stays);
+    few_waiting = λ n. subst (λ (t : Bool). length (waiting es n ++ cond t [] (if_same (length (builds es)) n id true)) ≤ most_waiting) (sym is) (waits_one n stays);
   }
     where
       begun : (t : Bool) → stays ≡ t → length (builds es ++ cond t [] (record { key = key; options = options } ∷ [])) ≤ most_builds
       begun true e = same-length (builds es) most_builds h.few_builds
       begun false e = one-begins (record { key = key; options = options }) (few_builds e)
 
-      waits_one : (n : ℕ) (t : Bool) → length (waiting es n ++ cond t [] (if_same (length (builds es)) n id)) ≤ most_waiting
+      waits_one : (n : ℕ) (t : Bool) → length (waiting es n ++ cond t [] (if_same (length (builds es)) n id true)) ≤ most_waiting
       waits_one n true = same-length (waiting es n) most_waiting (h.few_waiting n)
       waits_one n false = next-waits n id
 
@@ -109,16 +127,16 @@ module _ (es : List Event) (legal : is_legal es ≡ true) (h : AreFew es) where
   rebuild-holds id key o is few_waiting few_builds = record {
     few_contexts = h.few_contexts;
     few_builds = subst (λ (p : Option ℕ). length (builds es ++ if_idle p (record { key = key; options = options_of (context es key) })) ≤ most_builds) (sym is) (begun o refl);
-    few_waiting = λ n. subst (λ (p : Option ℕ). length (waiting es n ++ if_same (joined_build es p) n id) ≤ most_waiting) (sym is) (waits_one n o few_waiting);
+    few_waiting = λ n. subst (λ (p : Option ℕ). length (waiting es n ++ if_same (joined_build es p) n id true) ≤ most_waiting) (sym is) (waits_one n o few_waiting);
   }
     where
       begun : (p : Option ℕ) → o ≡ p → length (builds es ++ if_idle p (record { key = key; options = options_of (context es key) })) ≤ most_builds
       begun (Some n) e = same-length (builds es) most_builds h.few_builds
       begun None e = one-begins (record { key = key; options = options_of (context es key) }) (few_builds e)
 
-      waits_one : (n : ℕ) (p : Option ℕ) → crowd (moves_in es) p < most_waiting → length (waiting es n ++ if_same (joined_build es p) n id) ≤ most_waiting
+      waits_one : (n : ℕ) (p : Option ℕ) → crowd (moves_in es) p < most_waiting → length (waiting es n ++ if_same (joined_build es p) n id true) ≤ most_waiting
       waits_one n None few = next-waits n id
-      waits_one n (Some m) few = one-more m n id few
+      waits_one n (Some m) few = one-more m n id true few
 
   command-holds : (id : ℕ) (c : Command) → refusal (met_in (moves_in es) (key_of c)) c ≡ None → Holds es id (accepted c)
   command-holds id (command.Build key options) e =
@@ -130,13 +148,21 @@ module _ (es : List Event) (legal : is_legal es ≡ true) (h : AreFew es) where
       (λ passes. not-full (length (builds es)) (second (not options.context) (is_full (met_in (moves_in es) key)) (ap not passes) three))
   command-holds id (command.Rebuild key) e =
       let last : List (Bool × List ℕ) = too_many (is_none (active_build es key)) (met_in (moves_in es) key) ∷ [] in
-      let one = accepts (is_none (context es key)) (codes "Unknown key") ((nat_le most_waiting (crowd (moves_in es) (active_build es key)), codes "Too many waiters") ∷ last) e in
+      let one = accepts (is_none (context es key) || (met_in (moves_in es) key).retired) (codes "Unknown key") ((nat_le most_waiting (crowd (moves_in es) (active_build es key)), codes "Too many waiters") ∷ last) e in
       let two = accepts (nat_le most_waiting (crowd (moves_in es) (active_build es key))) (codes "Too many waiters") last one.1 in
       let three = lasts (is_none (active_build es key) && is_full (met_in (moves_in es) key)) (codes "Too many builds") two.1 in
       rebuild-holds id key (active_build es key) refl (below most_waiting (crowd (moves_in es) (active_build es key)) two.0)
       (λ none. not-full (length (builds es)) (second (is_none (active_build es key)) (is_full (met_in (moves_in es) key)) (ap is_none none) three))
-  command-holds id (command.Cancel key) e = calm id (accepted (command.Cancel key)) (gone-fewer key (options_of (context es key)).context (active_build es key) (contexts es)) refl (λ n. refl)
-  command-holds id (command.Dispose key) e = calm id (accepted (command.Dispose key)) (fewer key (contexts es)) refl (λ n. refl)
+  command-holds id (command.Cancel key) e = record {
+    few_contexts = let less = gone-fewer es key (options_of (context es key)).context (active_build es key) (contexts es) in let few = h.few_contexts in omega (arith, few, less);
+    few_builds = same-length (builds es) most_builds h.few_builds;
+    few_waiting = λ n. stop-waits id (active_build es key) (stop-few key e) n;
+  }
+  command-holds id (command.Dispose key) e = record {
+    few_contexts = let less = fewer-unless (is_settled_build es (active_build es key)) key (contexts es) in let few = h.few_contexts in omega (arith, few, less);
+    few_builds = same-length (builds es) most_builds h.few_builds;
+    few_waiting = λ n. stop-waits id (active_build es key) (stop-few key e) n;
+  }
   command-holds id (command.Watch key) e = calm id (accepted (command.Watch key)) (omega arith) refl (λ n. refl)
   command-holds id (command.Serve key port) e = calm id (accepted (command.Serve key port)) (omega arith) refl (λ n. refl)
   command-holds id command.Ping e = calm id (accepted command.Ping) (omega arith) refl (λ n. refl)
@@ -159,17 +185,20 @@ module _ (es : List Event) (legal : is_legal es ≡ true) (h : AreFew es) where
   quiet e contexts_few no_build no_wait = record {
     few_contexts = let few = h.few_contexts in omega (arith, few, contexts_few);
     few_builds = let few = h.few_builds in let same = ap (λ (bs : List Begun). length (builds es ++ bs)) no_build ∙ ap length (append-nil (builds es)) in omega (arith, few, same);
-    few_waiting = λ n. let few = h.few_waiting n in let same = ap (λ (ids : List ℕ). length (waiting es n ++ ids)) (no_wait n) ∙ ap length (append-nil (waiting es n)) in omega (arith, few, same);
+    few_waiting = λ n. let few = h.few_waiting n in let same = ap (λ (ws : List (ℕ × Bool)). length (waiting es n ++ ws)) (no_wait n) ∙ ap length (append-nil (waiting es n)) in omega (arith, few, same);
   }
 
-  gone-few : (m : ℕ) (p : Option Outcome) (stays : Bool) → length (gone_unless (record { key = (build es m).key; options = record (build es m).options { context = stays } }) p (contexts es)) ≤ length (contexts es)
-  gone-few m None true = omega arith
-  gone-few m None false = fewer (build es m).key (contexts es)
-  gone-few m (Some p) stays = omega arith
+  gone-few : (m : ℕ) (p : Option Outcome) → length (gone_unless (build es m).key (stays_after es m) p (contexts es)) ≤ length (contexts es)
+  gone-few m None = fewer-unless (stays_after es m) (build es m).key (contexts es)
+  gone-few m (Some p) = omega arith
 
-  work-few : (m : ℕ) (large : Bool) → length (gone_large large (build es m) (outcome es m) (contexts es)) ≤ length (contexts es)
-  work-few m true = gone-few m (outcome es m) (build es m).options.context
+  work-few : (m : ℕ) (large : Bool) → length (gone_large large (build es m).key (stays_after es m) (outcome es m) (contexts es)) ≤ length (contexts es)
+  work-few m true = gone-few m (outcome es m)
   work-few m false = omega arith
+
+  settle-few : (m : ℕ) (writes : Bool) → length (cond writes (contexts es) (gone_unless (build es m).key (stays_after es m) (outcome es m) (contexts es))) ≤ length (contexts es)
+  settle-few m true = omega arith
+  settle-few m false = gone-few m (outcome es m)
 
   event-holds : (e : Event) → After e
   event-holds (event.Arrive p) = by p.request refl
@@ -185,7 +214,8 @@ module _ (es : List Event) (legal : is_legal es ≡ true) (h : AreFew es) where
       by false is =
           let same = ap (λ t. length (cond t (contexts_by es (verdict es p)) (contexts es))) is in
           quiet (event.Arrive p) (omega (arith, same)) (ap (λ t. cond t (begins_by es (verdict es p)) []) is) (λ n. ap (λ t. cond t (waits_by es n p.id (verdict es p)) []) is)
-  event-holds (event.Settle worker m o) = quiet (event.Settle worker m o) (gone-few m (outcome es m) (build es m).options.context) refl (λ n. refl)
+  event-holds (event.Settle worker m o) = quiet (event.Settle worker m o) (settle-few m (is_to_write (build es m) o)) refl (λ n. refl)
+  event-holds (event.Written worker m f) = quiet (event.Written worker m f) (fewer-unless (stays_after es m) (build es m).key (contexts es)) refl (λ n. refl)
   event-holds event.Pop = quiet event.Pop (omega arith) refl (λ n. refl)
   event-holds event.EndOfInput = quiet event.EndOfInput (omega arith) refl (λ n. refl)
   event-holds (event.Claim role job) = quiet (event.Claim role job) (omega arith) refl (λ n. refl)
@@ -223,6 +253,7 @@ kept-within es n event.EndOfInput h = h
 kept-within es n (event.Claim role job) h = h
 kept-within es n (event.Deliver worker m t p) h = h
 kept-within es n (event.Settle worker m o) h = h
+kept-within es n (event.Written worker m f) h = h
 kept-within es n event.Pop h = h
 
 table-within : (n : ℕ) (events : List Event) → IsWithin (table events n)

@@ -1,14 +1,17 @@
 -- What the questions about moves answer once one more move is made.
-use Rattle.std.proofs.Common.{◌≡◌, ℕ, ◌+◌, Bool, true, false, cond, List, [], ◌∷◌, ◌++◌, Option, None, Some, refl, sym, ap, ◌∙◌, append_assoc, append-nil, arith, nat_eq}
-use Rattle.std.specs.List.{fold, count_by}
+use Rattle.std.proofs.Common.{◌≡◌, ℕ, ◌+◌, Bool, true, false, cond, ◌||◌, List, [], ◌∷◌, ◌++◌, Option, None, Some, refl, sym, ap, ◌∙◌, append_assoc, append-nil, arith, nat_eq}
+use Rattle.std.specs.List.{fold, count_by, list_any}
+use Rattle.std.proofs.Math.Bool.{or-false}
+use Rattle.std.proofs.lemmas.List.Folds.{list_any-append}
 use Rattle.std.proofs.lemmas.List.Sums.{fold-append, sum_by-append}
 use Rattle.esb_ask.specs.declared.question.Question.{Question}
 use Rattle.esb_ask.specs.declared.answer.Answer.{Answer}
 use Rattle.esb_ask.specs.declared.task.Task.{Task}
 use Rattle.esb_ask.specs.declared.outcome.Outcome.{Outcome}
+use Rattle.esb_ask.specs.declared.outcome.Failures.{Failures}
 use Rattle.esb_core.specs.declared.event.Event.{Event}
-use Rattle.esb_core.specs.Moves.{Move, make, remove, begin, join, owe, keep, assign, close, take}
-use Rattle.esb_core.specs.History.{gathered_from, gathered, context_at, contexts_in, active_at, active_in, begun_at, builds_in, waits_with, waiting_in, closed_by, or_later, outcome_in, answers_with, answers_in, kept_pair, table_in, opens_with, opens_in, owes, owed_in, moves_after, moves_from, moves_in}
+use Rattle.esb_core.specs.Moves.{Move, make, remove, begin, join, retire, owe, keep, assign, settle, write, close, take}
+use Rattle.esb_core.specs.History.{gathered_from, gathered, context_at, contexts_in, active_at, active_in, begun_at, builds_in, waits_with, waiting_in, settled_by, closes_it, closed_in, failed_at, failed_in, retired_at, retired_in, or_later, outcome_in, answers_with, answers_in, kept_pair, table_in, opens_with, opens_in, owes, owed_in, moves_after, moves_from, moves_in}
 
 pub contexts-push : (ms : List Move) (m : Move) → contexts_in (ms ++ m ∷ []) ≡ context_at (contexts_in ms) m
 contexts-push ms m = fold-append context_at [] ms (m ∷ [])
@@ -21,13 +24,13 @@ builds-push ms m = fold-append begun_at [] ms (m ∷ [])
 
 -- ---- waiting requests
 
-abbrev pub waits : ℕ → Move → List ℕ
+abbrev pub waits : ℕ → Move → List (ℕ × Bool)
 waits n m = waits_with n m []
 
-waits-past : (n : ℕ) (m : Move) (xs ys : List ℕ) → waits_with n m (xs ++ ys) ≡ waits_with n m xs ++ ys
-waits-past n (join k id) xs ys = by (nat_eq k n)
+waits-past : (n : ℕ) (m : Move) (xs ys : List (ℕ × Bool)) → waits_with n m (xs ++ ys) ≡ waits_with n m xs ++ ys
+waits-past n (join k id result) xs ys = by (nat_eq k n)
   where
-    by : (t : Bool) → cond t (id ∷ xs ++ ys) (xs ++ ys) ≡ cond t (id ∷ xs) xs ++ ys
+    by : (t : Bool) → cond t ((id, result) ∷ xs ++ ys) (xs ++ ys) ≡ cond t ((id, result) ∷ xs) xs ++ ys
     by true = refl
     by false = refl
 waits-past n (make key options) xs ys = refl
@@ -36,7 +39,10 @@ waits-past n (begin k key options) xs ys = refl
 waits-past n (owe o) xs ys = refl
 waits-past n (keep k q a) xs ys = refl
 waits-past n (assign k t) xs ys = refl
-waits-past n (close key k o) xs ys = refl
+waits-past n (retire key) xs ys = refl
+waits-past n (settle k o) xs ys = refl
+waits-past n (write k f) xs ys = refl
+waits-past n (close key k) xs ys = refl
 waits-past n take xs ys = refl
 
 pub waiting-append : (ms ns : List Move) (n : ℕ) → waiting_in (ms ++ ns) n ≡ waiting_in ms n ++ waiting_in ns n
@@ -58,10 +64,24 @@ or_later-assoc (Some o) p q = refl
 
 pub outcome-append : (ms ns : List Move) (n : ℕ) → outcome_in (ms ++ ns) n ≡ or_later (outcome_in ms n) (outcome_in ns n)
 outcome-append [] ns n = refl
-outcome-append (m ∷ ms) ns n = ap (λ o. or_later (closed_by n m) o) (outcome-append ms ns n) ∙ or_later-assoc (closed_by n m) (outcome_in ms n) (outcome_in ns n)
+outcome-append (m ∷ ms) ns n = ap (λ o. or_later (settled_by n m) o) (outcome-append ms ns n) ∙ or_later-assoc (settled_by n m) (outcome_in ms n) (outcome_in ns n)
 
-pub outcome-push : (ms : List Move) (m : Move) (n : ℕ) → outcome_in (ms ++ m ∷ []) n ≡ or_later (outcome_in ms n) (closed_by n m)
-outcome-push ms m n = outcome-append ms (m ∷ []) n ∙ ap (λ o. or_later (outcome_in ms n) o) (or_later-None (closed_by n m))
+pub outcome-push : (ms : List Move) (m : Move) (n : ℕ) → outcome_in (ms ++ m ∷ []) n ≡ or_later (outcome_in ms n) (settled_by n m)
+outcome-push ms m n = outcome-append ms (m ∷ []) n ∙ ap (λ o. or_later (outcome_in ms n) o) (or_later-None (settled_by n m))
+
+-- ---- closed builds, and their failures
+
+pub closed-append : (ms ns : List Move) (n : ℕ) → closed_in (ms ++ ns) n ≡ (closed_in ms n || closed_in ns n)
+closed-append ms ns n = list_any-append (closes_it n) ms ns
+
+pub closed-push : (ms : List Move) (m : Move) (n : ℕ) → closed_in (ms ++ m ∷ []) n ≡ (closed_in ms n || closes_it n m)
+closed-push ms m n = closed-append ms (m ∷ []) n ∙ ap (λ t. closed_in ms n || t) (or-false (closes_it n m))
+
+pub failed-push : (ms : List Move) (m : Move) (n : ℕ) → failed_in (ms ++ m ∷ []) n ≡ failed_at n (failed_in ms n) m
+failed-push ms m n = fold-append (failed_at n) None ms (m ∷ [])
+
+pub retired-push : (ms : List Move) (m : Move) → retired_in (ms ++ m ∷ []) ≡ retired_at (retired_in ms) m
+retired-push ms m = fold-append retired_at [] ms (m ∷ [])
 
 -- ---- answers
 
@@ -78,10 +98,13 @@ answers-past n (keep k q a) xs ys = by (nat_eq k n)
 answers-past n (make key options) xs ys = refl
 answers-past n (remove key) xs ys = refl
 answers-past n (begin k key options) xs ys = refl
-answers-past n (join k id) xs ys = refl
+answers-past n (join k id result) xs ys = refl
 answers-past n (owe o) xs ys = refl
 answers-past n (assign k t) xs ys = refl
-answers-past n (close key k o) xs ys = refl
+answers-past n (retire key) xs ys = refl
+answers-past n (settle k o) xs ys = refl
+answers-past n (write k f) xs ys = refl
+answers-past n (close key k) xs ys = refl
 answers-past n take xs ys = refl
 
 pub answers-append : (ms ns : List Move) (n : ℕ) → answers_in (ms ++ ns) n ≡ answers_in ms n ++ answers_in ns n
@@ -109,10 +132,13 @@ opens-past n (assign k t) xs ys = by (nat_eq k n)
 opens-past n (make key options) xs ys = refl
 opens-past n (remove key) xs ys = refl
 opens-past n (begin k key options) xs ys = refl
-opens-past n (join k id) xs ys = refl
+opens-past n (join k id result) xs ys = refl
 opens-past n (owe o) xs ys = refl
 opens-past n (keep k q a) xs ys = refl
-opens-past n (close key k o) xs ys = refl
+opens-past n (retire key) xs ys = refl
+opens-past n (settle k o) xs ys = refl
+opens-past n (write k f) xs ys = refl
+opens-past n (close key k) xs ys = refl
 opens-past n take xs ys = refl
 
 pub opens-append : (ms ns : List Move) (n : ℕ) → opens_in (ms ++ ns) n ≡ opens_in ms n ++ opens_in ns n

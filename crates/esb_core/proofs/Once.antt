@@ -1,5 +1,5 @@
 -- Each task and each link is claimed once.
-use Rattle.std.proofs.Common.{◌≡◌, ℕ, zero, suc, ◌+◌, ◌<◌, ◌≤◌, Bool, true, false, cond, ◌&&◌, List, [], ◌∷◌, ◌++◌, length, take, Option, None, Some, is_none, refl, sym, ap, subst, ◌∙◌, arith, nat_eq, eq-eqb, eqb-true, ltb-true, length-append, slice_get, slice_set, ◌||◌}
+use Rattle.std.proofs.Common.{◌≡◌, ℕ, zero, suc, ◌+◌, ◌<◌, ◌≤◌, Bool, true, false, cond, ◌&&◌, List, [], ◌∷◌, ◌++◌, length, take, Option, None, Some, is_none, is_some, refl, sym, ap, subst, ◌∙◌, arith, nat_eq, eq-eqb, eqb-true, ltb-true, length-append, slice_get, slice_set, ◌||◌}
 use Rattle.std.specs.Prelude.{count_by}
 use Rattle.std.specs.List.{list_any}
 use Rattle.std.proofs.lemmas.Bool.{false≢true}
@@ -20,7 +20,7 @@ use Rattle.esb_core.specs.declared.event.Event.{Event}
 use Rattle.esb_core.specs.declared.event.Event.TheVariants as event
 use Rattle.esb_core.specs.State.{Building, State, build_at, no_build, start}
 use Rattle.esb_core.specs.Sizes.{opened}
-use Rattle.esb_core.specs.Moves.{Move, closed, closed_unless}
+use Rattle.esb_core.specs.Moves.{Move}
 use Rattle.esb_core.specs.Steps
 use Rattle.esb_core.specs.Steps.{after, moves, all_moved, standing, fresh, joined, answered, tasked, ended_by, entry_tasks_from, task_claimed, link_claimed, released}
 use Rattle.esb_core.specs.Allowed.{allowed, has_begun, first_job, names_job, may_settle}
@@ -29,7 +29,9 @@ use Rattle.esb_core.specs.Work.{claims_task, claims_link}
 use Rattle.esb_core.proofs.Claims.{claim-is, scan-is, link-is, both_parts}
 use Rattle.esb_core.proofs.Each.{each-set, each-all_moved}
 use Rattle.esb_core.proofs.Moving.{count-push}
+use Rattle.esb_core.proofs.Pushed.{by_settled}
 use Rattle.esb_core.proofs.Readings.{at-set}
+use Rattle.std.proofs.lemmas.List.{length-set}
 use Rattle.esb_core.proofs.Replays.{replay_from-append}
 use Rattle.esb_core.proofs.Legal.{each_legal}
 
@@ -234,10 +236,12 @@ fresh-once n es key options h = record {
 moved-once : (s : State) (ms : List Move) (es : List Event) → AreOnce s.builds es → (let t : State = all_moved s ms in AreOnce t.builds es)
 moved-once s ms es all =
     each-all_moved (λ n b. IsOnce b n es) (λ n key options h. fresh-once n es key options h)
-    (λ n b id h. reshaped b (joined b id) n es refl refl (λ none free. (none, free)) h)
+    (λ n b id result h. reshaped b (joined b id result) n es refl refl (λ none free. (none, free)) h)
     (λ n b q a h. reshaped b (answered b q a) n es refl refl (λ none free. (none, free)) h)
     (λ n b t h. opened-once b (tasked b t) n es (Some t) refl refl refl refl h)
     (λ n b o h. reshaped b (ended_by b o) n es refl refl (λ none free. absurd (let f : ⊥ = cc in f)) h)
+    (λ n b f h. reshaped b (Steps.written_by b f) n es refl refl (λ none free. (none, free)) h)
+    (λ n b h. reshaped b (Steps.closed_by b) n es refl refl (λ none free. (none, free)) h)
     s ms all
 
 module _ (s : State) (es : List Event) (all : AreOnce s.builds es) where
@@ -266,28 +270,42 @@ module _ (s : State) (es : List Event) (all : AreOnce s.builds es) where
       none_of : (o : Option ℕ) → is_none o ≡ true → o ≡ None
       none_of None e = refl
       none_of (Some k) e = absurd (false≢true e)
+  claims-once (role.Worker worker) (job.Write n) may =
+      changes-once (event.Claim (role.Worker worker) (job.Write n)) n (Steps.write_claimed (build_at s.builds n) worker) (λ m u. refl) (λ m. refl)
+      (reshaped (build_at s.builds n) (Steps.write_claimed (build_at s.builds n) worker) n es refl refl (λ none free. (none, free)) (all n))
   claims-once (role.Door door) j may = absurd (false≢true may)
 
 -- a build that a worker settles is settled once the moves are made
 pub is_settled_after : (s : State) (worker n : ℕ) (o : Outcome) → allowed s (event.Settle worker n o) ≡ true → (build_at (all_moved s (moves s (event.Settle worker n o))).builds n).outcome ≡ None → ⊥
-is_settled_after s worker n o may = by (build_at s.builds n).outcome refl
+is_settled_after s worker n o may = by_settled (λ ms. (build_at (all_moved s ms).builds n).outcome ≡ None → ⊥) (standing s n) n o (build_at s.builds n).outcome open_still shut shut already
   where
     lt : n < length s.builds
     lt = ltb-true n (length s.builds) (both_parts (has_begun s n) (may_settle (build_at s.builds n) worker o) may).0
 
-    ended : build_at (slice_set s.builds n (ended_by (build_at s.builds n) o)) n ≡ ended_by (build_at s.builds n) o
-    ended = at-set s.builds n (ended_by (build_at s.builds n) o) n lt ∙ ap (λ t. cond t (ended_by (build_at s.builds n) o) (build_at s.builds n)) (eq-eqb n n refl)
+    b : Building
+    b = ended_by (build_at s.builds n) o
 
-    some : (c : Building) → c ≡ ended_by (build_at s.builds n) o → c.outcome ≡ None → ⊥
-    some c is none = let said : Some o ≡ None = sym (ap (λ (b : Building). b.outcome) is) ∙ none in let f : ⊥ = cc in f
+    bs : List Building
+    bs = slice_set s.builds n b
 
-    closes : (stays : Bool) → (build_at (all_moved s (closed (build_at s.builds n).key stays n o)).builds n).outcome ≡ None → ⊥
-    closes true none = some (build_at (slice_set s.builds n (ended_by (build_at s.builds n) o)) n) ended none
-    closes false none = some (build_at (slice_set s.builds n (ended_by (build_at s.builds n) o)) n) ended none
+    there : build_at bs n ≡ b
+    there = at-set s.builds n b n lt ∙ ap (λ t. cond t b (build_at s.builds n)) (eq-eqb n n refl)
 
-    by : (p : Option Outcome) → (build_at s.builds n).outcome ≡ p → (build_at (all_moved s (closed_unless (standing s n) n o p)).builds n).outcome ≡ None → ⊥
-    by None is none = closes (build_at s.builds n).options.context none
-    by (Some p) is none = let said : Some p ≡ None = sym is ∙ none in let f : ⊥ = cc in f
+    some : (c : Building) → c.outcome ≡ Some o → c.outcome ≡ None → ⊥
+    some c is none = let said : Some o ≡ None = sym is ∙ none in let f : ⊥ = cc in f
+
+    open_still : (build_at bs n).outcome ≡ None → ⊥
+    open_still none = some (build_at bs n) (ap (λ (c : Building). c.outcome) there) none
+
+    shut : (build_at (slice_set bs n (Steps.closed_by (build_at bs n))) n).outcome ≡ None → ⊥
+    shut none =
+        some (build_at (slice_set bs n (Steps.closed_by (build_at bs n))) n)
+        (ap (λ (c : Building). c.outcome) (at-set bs n (Steps.closed_by (build_at bs n)) n (let long = length-set s.builds n b in omega (arith, lt, long)) ∙ ap (λ t. cond t (Steps.closed_by (build_at bs n)) (build_at bs n)) (eq-eqb n n refl))
+        ∙ ap (λ (c : Building). c.outcome) there)
+        none
+
+    already : is_some (build_at s.builds n).outcome ≡ true → (build_at s.builds n).outcome ≡ None → ⊥
+    already settled none = false≢true (sym (ap is_some none) ∙ settled)
 
 step-once : (s : State) (es : List Event) (e : Event) → AreOnce s.builds es → allowed s e ≡ true → (let t : State = after s e in AreOnce t.builds (es ++ e ∷ []))
 step-once s es (event.Claim r j) all may = claims-once s es all r j may
@@ -305,6 +323,7 @@ step-once s es (event.Arrive p) all may = idle (all_moved s (moves s (event.Arri
 step-once s es (event.Record worker n q a) all may =
     idle (all_moved s (moves s (event.Record worker n q a))) es (moved-once s (moves s (event.Record worker n q a)) es all) (event.Record worker n q a) (λ m t. refl) (λ m. refl)
 step-once s es event.EndOfInput all may = idle s es all event.EndOfInput (λ n t. refl) (λ n. refl)
+step-once s es (event.Written worker n f) all may = idle (all_moved s (moves s (event.Written worker n f))) es (moved-once s (moves s (event.Written worker n f)) es all) (event.Written worker n f) (λ m t. refl) (λ m. refl)
 step-once s es event.Pop all may = idle (all_moved s (moves s event.Pop)) es (moved-once s (moves s event.Pop) es all) event.Pop (λ n t. refl) (λ n. refl)
 
 none-once : AreOnce [] []

@@ -1,5 +1,5 @@
 -- Each event that is allowed comes to moves that fit, and these keep the order of the active builds.
-use Rattle.std.proofs.Common.{◌≡◌, ◌⊎◌, inl, inr, ℕ, ◌+◌, ◌<◌, ◌≤◌, Bool, true, false, cond, not, ◌&&◌, List, [], ◌∷◌, ◌++◌, length, Option, None, Some, is_none, is_some, Ok, Err, refl, sym, ap, subst, ◌∙◌, arith, nat_eq, nat_le, nat_lt, eqb-true, ltb-true, slice_set, length-append}
+use Rattle.std.proofs.Common.{◌≡◌, ◌⊎◌, inl, inr, ℕ, ◌+◌, ◌<◌, ◌≤◌, Bool, true, false, cond, not, ◌&&◌, ◌||◌, List, [], ◌∷◌, ◌++◌, length, Option, None, Some, is_none, is_some, Ok, Err, refl, sym, ap, subst, ◌∙◌, arith, nat_eq, nat_le, nat_lt, eqb-true, ltb-true, slice_set, length-append}
 use Rattle.std.specs.Prelude.{IsSome, codes}
 use Rattle.std.specs.Map.{lookup}
 use Rattle.std.proofs.Math.ListN.{get_or-append}
@@ -16,6 +16,8 @@ use Rattle.esb_ask.specs.declared.question.Question.{Question}
 use Rattle.esb_ask.specs.declared.answer.Answer.{Answer}
 use Rattle.esb_ask.specs.declared.task.Task.{Task}
 use Rattle.esb_ask.specs.declared.product.Product.{Product}
+use Rattle.esb_ask.specs.declared.outcome.Failures.{Failures}
+use Rattle.esb_ask.specs.declared.outcome.OutFile.{OutFile}
 use Rattle.esb_ask.specs.declared.outcome.Outcome.{Outcome}
 use Rattle.esb_ask.specs.declared.outcome.Outcome.TheVariants as outcome
 use Rattle.esb_ask.specs.Table.{fits, kept}
@@ -23,23 +25,54 @@ use Rattle.esb_ask.specs.Tasks.{product_fits}
 use Rattle.esb_core.specs.declared.event.Event.{Event}
 use Rattle.esb_core.specs.declared.event.Event.TheVariants as event
 use Rattle.esb_core.specs.State.{Building, State, build_at, no_build}
-use Rattle.esb_core.specs.Moves.{Move, make, remove, begin, join, owe, keep, assign, close, take, Standing, most_builds, most_contexts, most_waiting, key_of, options_of, is_full, first_of, too_many, refusal, done, begun, joined_or_begun, closed, canceled, effect, refused_or, requested, added_or, kept_unless, opens, opened_unless, closed_unless}
+use Rattle.esb_core.specs.Moves.{Move, make, remove, begin, join, owe, keep, assign, settle, write, retire, close, take, Standing, puts, most_builds, most_contexts, most_waiting, key_of, options_of, is_full, first_of, too_many, refusal, unknown, crowded, done, begun, joined_or_begun, closed, ended, canceled_or, canceled, disposed, effect, refused_or, requested, added_or, kept_unless, opens, opened_unless, settled, settled_unless}
 use Rattle.esb_core.specs.Sizes.{named, opened, with_task, is_overfull, has_too_many, too_large}
 use Rattle.esb_core.specs.Steps
-use Rattle.esb_core.specs.Steps.{moved, all_moved, fresh, joined, answered, tasked, ended_by, without, active_of, met, standing, moves}
-use Rattle.esb_core.specs.Allowed.{allowed, has_begun, has_task, may_settle}
-use Rattle.esb_core.specs.Order.{IsActive, IsOrdered}
+use Rattle.esb_core.specs.Steps.{moved, all_moved, fresh, joined, answered, tasked, ended_by, written_by, closed_by, without, active_of, settled_for, met, standing, moves}
+use Rattle.esb_core.specs.Allowed.{allowed, has_begun, has_task, is_writer, may_fail, may_settle}
+use Rattle.esb_core.specs.Order.{IsActive, IsOrdered, IsSane, MayClose}
 use Rattle.esb_core.proofs.Claims.{both_parts}
+use Rattle.esb_core.proofs.Each.{each-set, each-push}
 use Rattle.esb_core.proofs.Lookups.{self, some-or, not_none, lookup-found, lookup-last, lookup-split, without-same, without-other, without-found}
 
 -- ---- moves that fit
+
+-- a build that is settled so puts no files
+abbrev pub PutsNone : Building → Outcome → Type 0
+PutsNone b o = b.options.write ≡ true → (files : List OutFile) → o ≡ outcome.Files files → ⊥
+
+pub puts-none : (b : Building) (o : Outcome) → puts b.options.write o ≡ false → PutsNone b o
+puts-none b o none w files is = false≢true (sym none ∙ ap (λ (p : Outcome). puts b.options.write p) is ∙ w)
+
+-- what a first outcome of a build comes to, by whether it puts files
+pub settled-is : (at : Standing) (n : ℕ) (o : Outcome) → settled at n o ≡ cond (puts at.writes o) (settle n o ∷ []) (ended at.key at.stays n o)
+settled-is at n (outcome.Files files) = by at.writes
+  where
+    by : (t : Bool) → settle n (outcome.Files files) ∷ cond t [] (closed at.key at.stays n) ≡ cond t (settle n (outcome.Files files) ∷ []) (settle n (outcome.Files files) ∷ closed at.key at.stays n)
+    by true = refl
+    by false = refl
+settled-is at n (outcome.Errors messages) = refl
+settled-is at n outcome.Canceled = refl
+settled-is at n outcome.Memory = refl
 
 -- the build has begun and isn't settled
 pub record IsUnsettled (s : State) (n : ℕ) : Type 0 where
   pub begun : n < length s.builds
   pub unsettled : (build_at s.builds n).outcome ≡ None
 
--- the same, and the task doesn't make its files too many
+-- the build has begun and isn't closed
+pub record IsUnclosed (s : State) (n : ℕ) : Type 0 where
+  pub begun : n < length s.builds
+  pub unclosed : (build_at s.builds n).closed ≡ false
+
+-- the build is settled and isn't closed, and a worker writes its files
+pub record IsUnwritten (s : State) (n : ℕ) : Type 0 where
+  pub begun : n < length s.builds
+  pub taken : IsSome (build_at s.builds n).writer
+  pub settled : IsSome (build_at s.builds n).outcome
+  pub unclosed : (build_at s.builds n).closed ≡ false
+
+-- it isn't settled, and the task doesn't make its files too many
 pub record IsRoom (s : State) (n : ℕ) (t : Task) : Type 0 where
   pub begun : n < length s.builds
   pub unsettled : (build_at s.builds n).outcome ≡ None
@@ -56,11 +89,14 @@ abbrev pub Fits : State → Move → Type 0
 Fits s (make key options) = lookup (nat_eq key) s.contexts ≡ None
 Fits s (remove key) = active_of s key ≡ None
 Fits s (begin n key options) = IsNext s n key
-Fits s (join n id) = IsUnsettled s n
+Fits s (retire key) = IsSome (active_of s key)
+Fits s (join n id result) = IsUnclosed s n
 Fits s (owe o) = Unit {0}
 Fits s (keep n q a) = IsUnsettled s n
 Fits s (assign n t) = IsRoom s n t
-Fits s (close key n o) = IsActive s key n
+Fits s (settle n o) = IsUnsettled s n
+Fits s (write n f) = IsUnwritten s n
+Fits s (close key n) = MayClose s key n
 Fits s take = 0 < length s.owed
 
 abbrev pub AllFit : State → List Move → Type 0
@@ -79,24 +115,26 @@ some-stays p xs ys h = by (lookup p xs) refl h
 is_some-of : {X : Type 0} (o : Option X) (x : X) → o ≡ Some x → IsSome o
 is_some-of o x e = ap is_some e
 
--- the builds keep their keys, and which are settled
-same-builds : (s t : State) → t.contexts ≡ s.contexts → t.active ≡ s.active → length t.builds ≡ length s.builds → ((m : ℕ) → (build_at t.builds m).outcome ≡ (build_at s.builds m).outcome)
-    → ((m : ℕ) → (build_at t.builds m).key ≡ (build_at s.builds m).key) → IsOrdered s → IsOrdered t
-same-builds s t contexts active long outcome key h = record {
+-- the builds keep their keys, and which are closed
+same-builds : (s t : State) → t.contexts ≡ s.contexts → t.active ≡ s.active → length t.builds ≡ length s.builds → ((m : ℕ) → (build_at t.builds m).closed ≡ (build_at s.builds m).closed)
+    → ((m : ℕ) → (build_at t.builds m).key ≡ (build_at s.builds m).key) → ((m : ℕ) → IsSane (build_at t.builds m)) → IsOrdered s → IsOrdered t
+same-builds s t contexts active long closed key sane h = record {
   active = λ k n e.
       let a = h.active k n (ap (λ (xs : List (ℕ × ℕ)). lookup (nat_eq k) xs) (sym active) ∙ e) in
-      record { begun = let lt = a.begun in omega (arith, lt, long); unsettled = outcome n ∙ a.unsettled; its_key = key n ∙ a.its_key };
-  known = λ n lt none.
+      record { begun = let lt = a.begun in omega (arith, lt, long); unclosed = closed n ∙ a.unclosed; its_key = key n ∙ a.its_key };
+  known = λ n lt open_still.
       ap (λ (k : ℕ). lookup (nat_eq k) t.active) (key n) ∙ ap (λ (xs : List (ℕ × ℕ)). lookup (nat_eq (build_at s.builds n).key) xs) active
-      ∙ h.known n (omega (arith, lt, long)) (sym (outcome n) ∙ none);
+      ∙ h.known n (omega (arith, lt, long)) (sym (closed n) ∙ open_still);
   inside = λ k n e.
       subst (λ (xs : List (ℕ × Options)). IsSome (lookup (nat_eq k) xs)) (sym contexts) (h.inside k n (ap (λ (xs : List (ℕ × ℕ)). lookup (nat_eq k) xs) (sym active) ∙ e));
+  sane = sane;
 }
 
 -- the same contexts and builds
 pub ordered-as : (s t : State) → t.contexts ≡ s.contexts → t.active ≡ s.active → t.builds ≡ s.builds → IsOrdered s → IsOrdered t
 ordered-as s t contexts active builds h =
-    same-builds s t contexts active (ap length builds) (λ m. ap (λ (bs : List Building). (build_at bs m).outcome) builds) (λ m. ap (λ (bs : List Building). (build_at bs m).key) builds) h
+    same-builds s t contexts active (ap length builds) (λ m. ap (λ (bs : List Building). (build_at bs m).closed) builds) (λ m. ap (λ (bs : List Building). (build_at bs m).key) builds)
+    (λ m. subst (λ (bs : List Building). IsSane (build_at bs m)) (sym builds) (h.sane m)) h
 
 pub set-at : (bs : List Building) (n : ℕ) (b : Building) (m : ℕ) → n < length bs → build_at (slice_set bs n b) m ≡ cond (nat_eq n m) b (build_at bs m)
 set-at bs n b m lt = by (nat_eq n m) refl
@@ -115,10 +153,11 @@ set-same f bs n b m lt same = ap f (set-at bs n b m lt) ∙ by (nat_eq n m) refl
     by true e = same ∙ ap (λ k. f (build_at bs k)) (eqb-true n m e)
     by false e = refl
 
--- a build changes, and keeps its key and its outcome
-pub changed-ordered : (s : State) (n : ℕ) (b : Building) → n < length s.builds → b.outcome ≡ (build_at s.builds n).outcome → b.key ≡ (build_at s.builds n).key → IsOrdered s → IsOrdered (Steps.changed s n b)
-changed-ordered s n b lt outcome key h =
-    same-builds s (Steps.changed s n b) refl refl (length-set s.builds n b) (λ m. set-same (λ c. c.outcome) s.builds n b m lt outcome) (λ m. set-same (λ c. c.key) s.builds n b m lt key) h
+-- a build changes, and keeps its key, and whether it is closed
+pub changed-ordered : (s : State) (n : ℕ) (b : Building) → n < length s.builds → b.closed ≡ (build_at s.builds n).closed → b.key ≡ (build_at s.builds n).key → IsSane b → IsOrdered s → IsOrdered (Steps.changed s n b)
+changed-ordered s n b lt closed key sane h =
+    same-builds s (Steps.changed s n b) refl refl (length-set s.builds n b) (λ m. set-same (λ c. c.closed) s.builds n b m lt closed) (λ m. set-same (λ c. c.key) s.builds n b m lt key)
+    (each-set (λ k c. IsSane c) s.builds n b h.sane sane) h
 
 below_or_last : (n m : ℕ) → n < m + 1 → (n < m) ⊎ (n ≡ m)
 below_or_last n m lt = by (nat_lt n m) refl
@@ -150,18 +189,18 @@ module _ (s : State) (h : IsOrdered s) (n key : ℕ) (options : Options) (f : Is
   old-active k m e =
       let a = h.active k m e in
       let same = before m a.begun in
-      record { begun = let lt = a.begun in omega (arith, lt, longer); unsettled = ap (λ (c : Building). c.outcome) same ∙ a.unsettled; its_key = ap (λ (c : Building). c.key) same ∙ a.its_key }
+      record { begun = let lt = a.begun in omega (arith, lt, longer); unclosed = ap (λ (c : Building). c.closed) same ∙ a.unclosed; its_key = ap (λ (c : Building). c.key) same ∙ a.its_key }
 
   new-active : (k m : ℕ) → k ≡ key → n ≡ m → IsActive t k m
   new-active k m same number =
       let own = last m (sym number) in
-      record { begun = let is = f.number in omega (arith, number, is, longer); unsettled = ap (λ (c : Building). c.outcome) own; its_key = ap (λ (c : Building). c.key) own ∙ sym same }
+      record { begun = let is = f.number in omega (arith, number, is, longer); unclosed = ap (λ (c : Building). c.closed) own; its_key = ap (λ (c : Building). c.key) own ∙ sym same }
 
-  begins-known : (m : ℕ) → (m < length s.builds) ⊎ (m ≡ length s.builds) → (build_at t.builds m).outcome ≡ None → active_of t (build_at t.builds m).key ≡ Some m
+  begins-known : (m : ℕ) → (m < length s.builds) ⊎ (m ≡ length s.builds) → (build_at t.builds m).closed ≡ false → active_of t (build_at t.builds m).key ≡ Some m
   begins-known m (inl lt) none =
       let same = before m lt in
       ap (λ (c : Building). lookup (nat_eq c.key) t.active) same
-      ∙ lookup-found (nat_eq (build_at s.builds m).key) s.active ((key, n) ∷ []) m (h.known m lt (sym (ap (λ (c : Building). c.outcome) same) ∙ none))
+      ∙ lookup-found (nat_eq (build_at s.builds m).key) s.active ((key, n) ∷ []) m (h.known m lt (sym (ap (λ (c : Building). c.closed) same) ∙ none))
   begins-known m (inr is) none =
       ap (λ (c : Building). lookup (nat_eq c.key) t.active) (last m (is ∙ sym f.number)) ∙ lookup-last key s.active n f.idle ∙ ap Some (f.number ∙ sym is)
 
@@ -170,17 +209,21 @@ module _ (s : State) (h : IsOrdered s) (n key : ℕ) (options : Options) (f : Is
     active = λ k m e. lookup-split k key s.active n m e (old-active k m) (new-active k m);
     known = λ m lt none. begins-known m (below_or_last m (length s.builds) (omega (arith, lt, longer))) none;
     inside = λ k m e. lookup-split k key s.active n m e (h.inside k m) (λ same number. subst (λ (j : ℕ). IsSome (lookup (nat_eq j) s.contexts)) (sym same) f.inside);
+    sane = each-push (λ k c. IsSane c) s.builds b h.sane (λ k none. record { open_still = λ e. refl; unwritten = λ e. refl; writing = λ w e. refl; put = λ shut w files is. absurd (false≢true shut) });
   }
 
-module _ (s : State) (h : IsOrdered s) (key n : ℕ) (o : Outcome) (f : IsActive s key n) where
+module _ (s : State) (h : IsOrdered s) (key n : ℕ) (over : MayClose s key n) where
   abbrev u : State
-  u = moved s (close key n o)
+  u = moved s (close key n)
 
-  abbrev ended : Building
-  ended = ended_by (build_at s.builds n) o
+  f : IsActive s key n
+  f = over.active
+
+  abbrev shut : Building
+  shut = closed_by (build_at s.builds n)
 
   other-at : (m : ℕ) → nat_eq n m ≡ false → build_at u.builds m ≡ build_at s.builds m
-  other-at m apart = set-at s.builds n ended m f.begun ∙ ap (λ t. cond t ended (build_at s.builds m)) apart
+  other-at m apart = set-at s.builds n shut m f.begun ∙ ap (λ t. cond t shut (build_at s.builds m)) apart
 
   -- a build with another key is another one
   other-key : (m k : ℕ) → (build_at s.builds m).key ≡ k → nat_eq key k ≡ false → nat_eq n m ≡ false
@@ -197,64 +240,73 @@ module _ (s : State) (h : IsOrdered s) (key n : ℕ) (o : Outcome) (f : IsActive
       let a = h.active k m e in
       let same = other-at m (other-key m k a.its_key apart) in
       record {
-        begun = let lt = a.begun in let long = length-set s.builds n ended in omega (arith, lt, long);
-        unsettled = ap (λ (c : Building). c.outcome) same ∙ a.unsettled;
+        begun = let lt = a.begun in let long = length-set s.builds n shut in omega (arith, lt, long);
+        unclosed = ap (λ (c : Building). c.closed) same ∙ a.unclosed;
         its_key = ap (λ (c : Building). c.key) same ∙ a.its_key;
       }
 
-  -- an unsettled build that is another has another key
-  other-context : (m : ℕ) → m < length s.builds → (build_at s.builds m).outcome ≡ None → nat_eq n m ≡ false → nat_eq key (build_at s.builds m).key ≡ false
+  -- a build that is another and isn't closed has another key
+  other-context : (m : ℕ) → m < length s.builds → (build_at s.builds m).closed ≡ false → nat_eq n m ≡ false → nat_eq key (build_at s.builds m).key ≡ false
   other-context m lt none apart = by (nat_eq key (build_at s.builds m).key) refl
     where
       by : (t : Bool) → nat_eq key (build_at s.builds m).key ≡ t → t ≡ false
       by false is = refl
       by true is =
-          let mine : active_of s key ≡ Some n = ap (λ (j : ℕ). active_of s j) (sym f.its_key) ∙ h.known n f.begun f.unsettled in
+          let mine : active_of s key ≡ Some n = ap (λ (j : ℕ). active_of s j) (sym f.its_key) ∙ h.known n f.begun f.unclosed in
           let its : active_of s key ≡ Some m = ap (λ (j : ℕ). active_of s j) (eqb-true key (build_at s.builds m).key is) ∙ h.known m lt none in
           let both : Some n ≡ Some m = sym mine ∙ its in
           let same : n ≡ m = cc in
           absurd (false≢true (sym apart ∙ ap (λ (j : ℕ). nat_eq n j) (sym same) ∙ self n))
 
-  closes-known : (m : ℕ) → m < length s.builds → (t : Bool) → nat_eq n m ≡ t → (build_at u.builds m).outcome ≡ None → active_of u (build_at u.builds m).key ≡ Some m
+  closes-known : (m : ℕ) → m < length s.builds → (t : Bool) → nat_eq n m ≡ t → (build_at u.builds m).closed ≡ false → active_of u (build_at u.builds m).key ≡ Some m
   closes-known m lt true is none =
-      let own : build_at u.builds m ≡ ended = set-at s.builds n ended m f.begun ∙ ap (λ t. cond t ended (build_at s.builds m)) is in
-      not_none o (sym (ap (λ (c : Building). c.outcome) own) ∙ none)
+      let own : build_at u.builds m ≡ shut = set-at s.builds n shut m f.begun ∙ ap (λ t. cond t shut (build_at s.builds m)) is in
+      absurd (false≢true (sym none ∙ ap (λ (c : Building). c.closed) own))
   closes-known m lt false is none =
       let same = other-at m is in
-      let open_still : (build_at s.builds m).outcome ≡ None = sym (ap (λ (c : Building). c.outcome) same) ∙ none in
+      let open_still : (build_at s.builds m).closed ≡ false = sym (ap (λ (c : Building). c.closed) same) ∙ none in
       ap (λ (c : Building). lookup (nat_eq c.key) u.active) same ∙ without-other key (build_at s.builds m).key s.active (other-context m lt open_still is) ∙ h.known m lt open_still
 
   closes-ordered : IsOrdered u
   closes-ordered = record {
     active = λ k m e. without-found key k s.active m e (closes-active k m);
-    known = λ m lt none. closes-known m (let long = length-set s.builds n ended in omega (arith, lt, long)) (nat_eq n m) refl none;
+    known = λ m lt none. closes-known m (let long = length-set s.builds n shut in omega (arith, lt, long)) (nat_eq n m) refl none;
     inside = λ k m e. without-found key k s.active m e (λ apart is. h.inside k m is);
+    sane = each-set (λ k c. IsSane c) s.builds n shut h.sane (record {
+      open_still = λ none. absurd (false≢true (sym (ap is_some none) ∙ over.settled));
+      unwritten = λ none. over.free;
+      writing = λ w some. not_none w (sym some ∙ over.free);
+      put = λ e w files is. over.put w files is;
+    });
   }
 
 pub moved-ordered : (s : State) (m : Move) → Fits s m → IsOrdered s → IsOrdered (moved s m)
-moved-ordered s (make key options) f h = record { active = λ k n e. let a = h.active k n e in record { begun = a.begun; unsettled = a.unsettled; its_key = a.its_key }; known = h.known; inside = λ k n e. some-stays (nat_eq k) s.contexts ((key, options) ∷ []) (h.inside k n e) }
+moved-ordered s (make key options) f h = record { active = λ k n e. let a = h.active k n e in record { begun = a.begun; unclosed = a.unclosed; its_key = a.its_key }; known = h.known; inside = λ k n e. some-stays (nat_eq k) s.contexts ((key, options) ∷ []) (h.inside k n e); sane = h.sane }
 moved-ordered s (remove key) f h = record {
-  active = λ k n e. let a = h.active k n e in record { begun = a.begun; unsettled = a.unsettled; its_key = a.its_key };
+  active = λ k n e. let a = h.active k n e in record { begun = a.begun; unclosed = a.unclosed; its_key = a.its_key };
   known = h.known;
   inside = λ k n e. by k n e (nat_eq key k) refl;
+  sane = h.sane;
 }
   where
     by : (k n : ℕ) → active_of s k ≡ Some n → (t : Bool) → nat_eq key k ≡ t → IsSome (lookup (nat_eq k) (without key s.contexts))
     by k n e true same = not_none n (sym e ∙ ap (λ (j : ℕ). active_of s j) (sym (eqb-true key k same)) ∙ f)
     by k n e false apart = subst (λ (o : Option Options). IsSome o) (sym (without-other key k s.contexts apart)) (h.inside k n e)
+moved-ordered s (retire key) f h = same-builds s (moved s (retire key)) refl refl refl (λ m. refl) (λ m. refl) h.sane h
 moved-ordered s (begin n key options) f h = begins-ordered s h n key options f
-moved-ordered s (join n id) f h =
-    same-builds s (moved s (join n id)) refl refl (length-set s.builds n (joined (build_at s.builds n) id)) (λ m. set-same (λ c. c.outcome) s.builds n (joined (build_at s.builds n) id) m f.begun refl)
-    (λ m. set-same (λ c. c.key) s.builds n (joined (build_at s.builds n) id) m f.begun refl) h
-moved-ordered s (owe o) f h = same-builds s (moved s (owe o)) refl refl refl (λ m. refl) (λ m. refl) h
-moved-ordered s (keep n q a) f h =
-    same-builds s (moved s (keep n q a)) refl refl (length-set s.builds n (answered (build_at s.builds n) q a)) (λ m. set-same (λ c. c.outcome) s.builds n (answered (build_at s.builds n) q a) m f.begun refl)
-    (λ m. set-same (λ c. c.key) s.builds n (answered (build_at s.builds n) q a) m f.begun refl) h
-moved-ordered s (assign n t) f h =
-    same-builds s (moved s (assign n t)) refl refl (length-set s.builds n (tasked (build_at s.builds n) t)) (λ m. set-same (λ c. c.outcome) s.builds n (tasked (build_at s.builds n) t) m f.begun refl)
-    (λ m. set-same (λ c. c.key) s.builds n (tasked (build_at s.builds n) t) m f.begun refl) h
-moved-ordered s (close key n o) f h = closes-ordered s h key n o f
-moved-ordered s take f h = same-builds s (moved s take) refl refl refl (λ m. refl) (λ m. refl) h
+moved-ordered s (join n id result) f h = changed-ordered s n (joined (build_at s.builds n) id result) f.begun refl refl (let k = h.sane n in record { open_still = k.open_still; unwritten = k.unwritten; writing = k.writing; put = k.put }) h
+moved-ordered s (owe o) f h = same-builds s (moved s (owe o)) refl refl refl (λ m. refl) (λ m. refl) h.sane h
+moved-ordered s (keep n q a) f h = changed-ordered s n (answered (build_at s.builds n) q a) f.begun refl refl (let k = h.sane n in record { open_still = k.open_still; unwritten = k.unwritten; writing = k.writing; put = k.put }) h
+moved-ordered s (assign n t) f h = changed-ordered s n (tasked (build_at s.builds n) t) f.begun refl refl (let k = h.sane n in record { open_still = k.open_still; unwritten = k.unwritten; writing = k.writing; put = k.put }) h
+moved-ordered s (settle n o) f h =
+    let k = h.sane n in
+    let unclosed = k.open_still f.unsettled in
+    changed-ordered s n (ended_by (build_at s.builds n) o) f.begun refl refl (record { open_still = λ e. unclosed; unwritten = λ e. k.unwritten f.unsettled; writing = λ w e. unclosed; put = λ shut w files is. absurd (false≢true (sym unclosed ∙ shut)) }) h
+moved-ordered s (write n g) f h =
+    let unclosed = f.unclosed in
+    changed-ordered s n (written_by (build_at s.builds n) g) f.begun refl refl (record { open_still = λ e. unclosed; unwritten = λ e. refl; writing = λ w e. unclosed; put = λ shut w files is. refl }) h
+moved-ordered s (close key n) f h = closes-ordered s h key n f
+moved-ordered s take f h = same-builds s (moved s take) refl refl refl (λ m. refl) (λ m. refl) h.sane h
 
 pub all_moved-ordered : (s : State) (ms : List Move) → AllFit s ms → IsOrdered s → IsOrdered (all_moved s ms)
 all_moved-ordered s [] f h = h
@@ -273,6 +325,10 @@ lasts holds text e = (accepts holds text [] e).0
 pub not-full : (n : ℕ) → nat_le most_builds n ≡ false → n < most_builds
 not-full n e = grind (arith)
 
+left-false : (a b : Bool) → (a || b) ≡ false → a ≡ false
+left-false true b e = absurd (false≢true (sym e))
+left-false false b e = refl
+
 there : {X : Type 0} (o : Option X) → is_none o ≡ false → IsSome o
 there None e = absurd (false≢true (sym e))
 there (Some x) e = refl
@@ -288,7 +344,7 @@ module _ (s : State) (h : IsOrdered s) where
     (
       record {
         begun = let long = length-append s.builds (fresh key options ∷ []) in omega (arith, long);
-        unsettled = ap (λ (b : Building). b.outcome) (get_or-append_seam s.builds (fresh key options) [] no_build);
+        unclosed = ap (λ (b : Building). b.closed) (get_or-append_seam s.builds (fresh key options) [] no_build);
       },
       tt,
     ),
@@ -316,7 +372,7 @@ module _ (s : State) (h : IsOrdered s) where
       (
         record {
           begun = let long = length-append s.builds (fresh key options ∷ []) in omega (arith, long);
-          unsettled = ap (λ (b : Building). b.outcome) (get_or-append_seam s.builds (fresh key options) [] no_build);
+          unclosed = ap (λ (b : Building). b.closed) (get_or-append_seam s.builds (fresh key options) [] no_build);
         },
         tt,
       ),
@@ -324,21 +380,52 @@ module _ (s : State) (h : IsOrdered s) where
   )
 
   rebuild-fits : (id key : ℕ) (o : Option ℕ) → active_of s key ≡ o → IsSome (lookup (nat_eq key) s.contexts) → (o ≡ None → length s.builds < most_builds) → AllFit s (joined_or_begun (met s key) id key o)
-  rebuild-fits id key (Some n) is some few = let a = h.active key n is in (record { begun = a.begun; unsettled = a.unsettled }, tt)
+  rebuild-fits id key (Some n) is some few = let a = h.active key n is in (record { begun = a.begun; unclosed = a.unclosed }, tt)
   rebuild-fits id key None is some few = begins-fit id key (options_of (met s key).context) (record { number = refl; few = few refl; idle = is; inside = some })
 
-  pub closed-fits : (key n : ℕ) (stays : Bool) (o : Outcome) (more : List Move) → active_of s key ≡ Some n → ((t : State) → t.active ≡ without key s.active → AllFit t more) → AllFit s (closed key stays n o ++ more)
-  closed-fits key n true o more is rest = (h.active key n is, rest (moved s (close key n o)) refl)
-  closed-fits key n false o more is rest = (h.active key n is, (without-same key s.active, rest (moved (moved s (close key n o)) (remove key)) refl))
+  -- a build that isn't settled can be closed once it is settled
+  pub settled-over : (key n : ℕ) (o : Outcome) → IsActive s key n → (build_at s.builds n).outcome ≡ None → PutsNone (build_at s.builds n) o → MayClose (moved s (settle n o)) key n
+  settled-over key n o a none puts =
+      let own : build_at (slice_set s.builds n (ended_by (build_at s.builds n) o)) n ≡ ended_by (build_at s.builds n) o = get_or-set_same s.builds n (ended_by (build_at s.builds n) o) no_build a.begun in
+      let k = h.sane n in
+      record {
+        active = record {
+          begun = let long = length-set s.builds n (ended_by (build_at s.builds n) o) in let lt = a.begun in omega (arith, long, lt);
+          unclosed = ap (λ (b : Building). b.closed) own ∙ a.unclosed;
+          its_key = ap (λ (b : Building). b.key) own ∙ a.its_key;
+        };
+        settled = ap (λ (b : Building). is_some b.outcome) own;
+        free = ap (λ (b : Building). b.writer) own ∙ k.unwritten none;
+        put = λ w files is.
+            let same : Some o ≡ Some (outcome.Files files) = sym (ap (λ (b : Building). b.outcome) own) ∙ is in
+            absurd (puts (sym (ap (λ (b : Building). b.options.write) own) ∙ w) files cc);
+      }
 
-  pub cancel-fits : (id key : ℕ) (stays : Bool) (o : Option ℕ) → active_of s key ≡ o → AllFit s (canceled key stays o ++ done id)
-  cancel-fits id key stays None is = (tt, tt)
-  cancel-fits id key stays (Some n) is = closed-fits key n stays outcome.Canceled (done id) is (λ t same. (tt, tt))
+  pub ended-fits : (key n : ℕ) (stays : Bool) (o : Outcome) (more : List Move) → IsActive s key n → (build_at s.builds n).outcome ≡ None → PutsNone (build_at s.builds n) o → ((t : State) → t.active ≡ without key s.active → AllFit t more) → AllFit s (ended key stays n o ++ more)
+  ended-fits key n true o more a none puts rest = (record { begun = a.begun; unsettled = none }, (settled-over key n o a none puts, rest (moved (moved s (settle n o)) (close key n)) refl))
+  ended-fits key n false o more a none puts rest =
+      (record { begun = a.begun; unsettled = none }, (settled-over key n o a none puts, (without-same key s.active, rest (moved (moved (moved s (settle n o)) (close key n)) (remove key)) refl)))
 
-  pub dispose-fits : (id key : ℕ) (o : Option ℕ) → active_of s key ≡ o → AllFit s (canceled key true o ++ remove key ∷ done id)
-  dispose-fits id key None is = (is, (tt, tt))
-  dispose-fits id key (Some n) is =
-      closed-fits key n true outcome.Canceled (remove key ∷ done id) is (λ t same. (ap (λ (xs : List (ℕ × ℕ)). lookup (nat_eq key) xs) same ∙ without-same key s.active, (tt, tt)))
+  pub none_or : (o : Option Outcome) → is_some o ≡ false → o ≡ None
+  none_or None e = refl
+  none_or (Some x) e = absurd (false≢true (sym e))
+
+  -- a build that is canceled, or one that the request waits for
+  pub cancel-fits : (id key : ℕ) (stays : Bool) (o : Option ℕ) (settled_is : Bool) (more : List Move) → active_of s key ≡ o → settled_for s.builds o ≡ settled_is → ((t : State) → t.active ≡ without key s.active → AllFit t more) → (o ≡ None → AllFit s more)
+      → AllFit s (canceled (record (met s key) { settled = settled_is }) id key stays o more)
+  cancel-fits id key stays None settled_is more is flag rest alone = alone refl
+  cancel-fits id key stays (Some n) true more is flag rest alone = let a = h.active key n is in (record { begun = a.begun; unclosed = a.unclosed }, tt)
+  cancel-fits id key stays (Some n) false more is flag rest alone = ended-fits key n stays outcome.Canceled more (h.active key n is) (none_or (build_at s.builds n).outcome flag) (λ w files is. let f : ⊥ = cc in f) rest
+
+  dispose-fits : (id key : ℕ) (settled_is : Bool) → settled_for s.builds (active_of s key) ≡ settled_is → AllFit s (disposed (record (met s key) { settled = settled_is }) id key)
+  dispose-fits id key true flag = by (active_of s key) refl flag
+    where
+      by : (o : Option ℕ) → active_of s key ≡ o → settled_for s.builds o ≡ true → AllFit s (retire key ∷ canceled (record (met s key) { settled = true }) id key true o [])
+      by None is e = absurd (false≢true e)
+      by (Some n) is e = let a = h.active key n is in (is_some-of (active_of s key) n is, (record { begun = a.begun; unclosed = a.unclosed }, tt))
+  dispose-fits id key false flag =
+      cancel-fits id key true (active_of s key) false (remove key ∷ done id) refl flag
+      (λ t same. (ap (λ (xs : List (ℕ × ℕ)). lookup (nat_eq key) xs) same ∙ without-same key s.active, (tt, tt))) (λ none. (none, (tt, tt)))
 
   effect-fits : (id : ℕ) (c : Command) → refusal (met s (key_of c)) c ≡ None → AllFit s (effect (met s (key_of c)) id c)
   effect-fits id (command.Build key options) e =
@@ -350,13 +437,14 @@ module _ (s : State) (h : IsOrdered s) where
       (λ passes. not-full (length s.builds) (second (not options.context) (is_full (met s key)) (ap not passes) three))
   effect-fits id (command.Rebuild key) e =
       let last : List (Bool × List ℕ) = too_many (is_none (active_of s key)) (met s key) ∷ [] in
-      let one = accepts (is_none (lookup (nat_eq key) s.contexts)) (codes "Unknown key") ((nat_le most_waiting (met s key).waiting, codes "Too many waiters") ∷ last) e in
-      let two = accepts (nat_le most_waiting (met s key).waiting) (codes "Too many waiters") last one.1 in
+      let one = accepts (is_none (lookup (nat_eq key) s.contexts) || (met s key).retired) (codes "Unknown key") (crowded true (met s key) ∷ last) e in
+      let two = accepts (true && nat_le most_waiting (met s key).waiting) (codes "Too many waiters") last one.1 in
       let three = lasts (is_none (active_of s key) && is_full (met s key)) (codes "Too many builds") two.1 in
-      rebuild-fits id key (active_of s key) refl (there (lookup (nat_eq key) s.contexts) one.0)
+      rebuild-fits id key (active_of s key) refl (there (lookup (nat_eq key) s.contexts) (left-false (is_none (lookup (nat_eq key) s.contexts)) (met s key).retired one.0))
       (λ none. not-full (length s.builds) (second (is_none (active_of s key)) (is_full (met s key)) (ap is_none none) three))
-  effect-fits id (command.Cancel key) e = cancel-fits id key (options_of (met s key).context).context (active_of s key) refl
-  effect-fits id (command.Dispose key) e = dispose-fits id key (active_of s key) refl
+  effect-fits id (command.Cancel key) e =
+      cancel-fits id key (options_of (met s key).context).context (active_of s key) (settled_for s.builds (active_of s key)) (done id) refl refl (λ t same. (tt, tt)) (λ none. (tt, tt))
+  effect-fits id (command.Dispose key) e = dispose-fits id key (settled_for s.builds (active_of s key)) refl
   effect-fits id (command.Watch key) e = tt
   effect-fits id (command.Serve key port) e = tt
   effect-fits id command.Ping e = (tt, tt)
@@ -373,15 +461,27 @@ module _ (s : State) (h : IsOrdered s) where
   arrive-fits p true = request-fits p.id (asked p.value)
   arrive-fits p false = tt
 
-  pub settle-fits : (n : ℕ) (o : Outcome) (p : Option Outcome) → n < length s.builds → (build_at s.builds n).outcome ≡ p → AllFit s (closed_unless (standing s n) n o p)
-  settle-fits n o None lt is = by (build_at s.builds n).options.context
-    where
-      its : IsActive s (build_at s.builds n).key n
-      its = record { begun = lt; unsettled = is; its_key = refl }
+  its-active : (n : ℕ) → n < length s.builds → (build_at s.builds n).closed ≡ false → IsActive s (build_at s.builds n).key n
+  its-active n lt open_still = record { begun = lt; unclosed = open_still; its_key = refl }
 
-      by : (stays : Bool) → AllFit s (closed (build_at s.builds n).key stays n o)
-      by true = (its, tt)
-      by false = (its, (without-same (build_at s.builds n).key s.active, tt))
+  end-fits : (n : ℕ) (o : Outcome) → n < length s.builds → (build_at s.builds n).outcome ≡ None → PutsNone (build_at s.builds n) o → (stays : Bool) → AllFit s (ended (build_at s.builds n).key stays n o)
+  end-fits n o lt is puts true =
+      let k = h.sane n in
+      (record { begun = lt; unsettled = is }, (settled-over (build_at s.builds n).key n o (its-active n lt (k.open_still is)) is puts, tt))
+  end-fits n o lt is puts false =
+      let k = h.sane n in
+      (record { begun = lt; unsettled = is }, (settled-over (build_at s.builds n).key n o (its-active n lt (k.open_still is)) is puts, (without-same (build_at s.builds n).key s.active, tt)))
+
+  pub settle-fits : (n : ℕ) (o : Outcome) (p : Option Outcome) → n < length s.builds → (build_at s.builds n).outcome ≡ p → AllFit s (settled_unless (standing s n) n o p)
+  settle-fits n (outcome.Files files) None lt is = by (standing s n).writes (standing s n).stays refl
+    where
+      by : (writes stays : Bool) → (build_at s.builds n).options.write ≡ writes → AllFit s (settle n (outcome.Files files) ∷ cond writes [] (closed (build_at s.builds n).key stays n))
+      by true stays put = (record { begun = lt; unsettled = is }, tt)
+      by false true put = end-fits n (outcome.Files files) lt is (λ w more e. false≢true (sym put ∙ w)) true
+      by false false put = end-fits n (outcome.Files files) lt is (λ w more e. false≢true (sym put ∙ w)) false
+  settle-fits n (outcome.Errors messages) None lt is = end-fits n (outcome.Errors messages) lt is (λ w files e. let f : ⊥ = cc in f) (standing s n).stays
+  settle-fits n outcome.Canceled None lt is = end-fits n outcome.Canceled lt is (λ w files e. let f : ⊥ = cc in f) (standing s n).stays
+  settle-fits n outcome.Memory None lt is = end-fits n outcome.Memory lt is (λ w files e. let f : ⊥ = cc in f) (standing s n).stays
   settle-fits n o (Some p) lt is = tt
 
   -- what work adds fits, or else the end of the build does
@@ -401,11 +501,52 @@ module _ (s : State) (h : IsOrdered s) where
   deliver-fits n t None lt is = added-fits n (has_too_many (opened (build_at s.builds n).tasks t)) (opens n t) lt is (λ few. opens-fit n t lt is few)
   deliver-fits n t (Some o) lt is = tt
 
+  some-outcome : (o : Option Outcome) (f : Failures) → may_fail o f ≡ true → IsSome o
+  some-outcome None f e = absurd (false≢true e)
+  some-outcome (Some o) f e = refl
+
+  writer-taken : (o : Option ℕ) (worker : ℕ) → is_writer o worker ≡ true → IsSome o
+  writer-taken None worker e = absurd (false≢true e)
+  writer-taken (Some writer) worker e = refl
+
+  writer-unclosed : (n : ℕ) (o : Option ℕ) (worker : ℕ) → (build_at s.builds n).writer ≡ o → is_writer o worker ≡ true → (build_at s.builds n).closed ≡ false
+  writer-unclosed n None worker is e = absurd (false≢true e)
+  writer-unclosed n (Some writer) worker is e = let k = h.sane n in k.writing writer is
+
+  -- once its files are put, a build can be closed
+  pub written-over : (n : ℕ) (f : Failures) → n < length s.builds → IsSome (build_at s.builds n).outcome → (build_at s.builds n).closed ≡ false → MayClose (moved s (write n f)) (build_at s.builds n).key n
+  written-over n f lt some open_still =
+      let own : build_at (slice_set s.builds n (written_by (build_at s.builds n) f)) n ≡ written_by (build_at s.builds n) f = get_or-set_same s.builds n (written_by (build_at s.builds n) f) no_build lt in
+      record {
+        active = record {
+          begun = let long = length-set s.builds n (written_by (build_at s.builds n) f) in omega (arith, long, lt);
+          unclosed = ap (λ (b : Building). b.closed) own ∙ open_still;
+          its_key = ap (λ (b : Building). b.key) own;
+        };
+        settled = ap (λ (b : Building). is_some b.outcome) own ∙ some;
+        free = ap (λ (b : Building). b.writer) own;
+        put = λ w files is. ap (λ (b : Building). is_some b.failed) own;
+      }
+
+  written-fits : (n : ℕ) (f : Failures) → n < length s.builds → IsSome (build_at s.builds n).writer → IsSome (build_at s.builds n).outcome → (build_at s.builds n).closed ≡ false → AllFit s (write n f ∷ closed (build_at s.builds n).key (standing s n).stays n)
+  written-fits n f lt taken some open_still = by (standing s n).stays
+    where
+      over : MayClose (moved s (write n f)) (build_at s.builds n).key n
+      over = written-over n f lt some open_still
+
+      by : (stays : Bool) → AllFit s (write n f ∷ closed (build_at s.builds n).key stays n)
+      by true = (record { begun = lt; taken = taken; settled = some; unclosed = open_still }, (over, tt))
+      by false = (record { begun = lt; taken = taken; settled = some; unclosed = open_still }, (over, (without-same (build_at s.builds n).key s.active, tt)))
+
   pub event-fits : (e : Event) → allowed s e ≡ true → AllFit s (moves s e)
   event-fits (event.Arrive packet) may = arrive-fits packet packet.request
   event-fits (event.Record worker n q a) may = record-fits n q a (build_at s.builds n).outcome (ltb-true n (length s.builds) (both_parts (has_begun s n) (fits q a) may).0) refl
   event-fits (event.Settle worker n o) may =
       settle-fits n o (build_at s.builds n).outcome (ltb-true n (length s.builds) (both_parts (has_begun s n) (may_settle (build_at s.builds n) worker o) may).0) refl
+  event-fits (event.Written worker n f) may =
+      let parts = both_parts (has_begun s n) (is_writer (build_at s.builds n).writer worker && may_fail (build_at s.builds n).outcome f) may in
+      let more = both_parts (is_writer (build_at s.builds n).writer worker) (may_fail (build_at s.builds n).outcome f) parts.1 in
+      written-fits n f (ltb-true n (length s.builds) parts.0) (writer-taken (build_at s.builds n).writer worker more.0) (some-outcome (build_at s.builds n).outcome f more.1) (writer-unclosed n (build_at s.builds n).writer worker refl more.0)
   event-fits event.Pop may = (ltb-true 0 (length s.owed) may, tt)
   event-fits event.EndOfInput may = tt
   event-fits (event.Claim role job) may = tt

@@ -7,7 +7,7 @@ use Rattle.esb_core.specs.declared.event.Role.TheVariants as role
 use Rattle.esb_core.specs.declared.event.Event.{Event}
 use Rattle.esb_core.specs.declared.event.Event.TheVariants as event
 use Rattle.esb_core.specs.State.{State, start}
-use Rattle.esb_core.specs.Moves.{Move, make, remove, begin, join, owe, keep, assign, close, take}
+use Rattle.esb_core.specs.Moves.{Move, make, remove, begin, join, owe, retire, keep, assign, settle, write, close, take}
 use Rattle.esb_core.specs.Steps.{moved, all_moved, moves, worked, after}
 use Rattle.esb_core.specs.History.{Begun, moves_in, replay_from, StandsFor}
 use Rattle.esb_core.specs.Laws.{ends_input, ShowsHistory}
@@ -20,11 +20,14 @@ ended-moved : (s : State) (m : Move) → (moved s m).ended ≡ s.ended
 ended-moved s (make key options) = refl
 ended-moved s (remove key) = refl
 ended-moved s (begin n key options) = refl
-ended-moved s (join n id) = refl
+ended-moved s (join n id result) = refl
+ended-moved s (retire key) = refl
 ended-moved s (owe o) = refl
 ended-moved s (keep n q a) = refl
 ended-moved s (assign n t) = refl
-ended-moved s (close key n o) = refl
+ended-moved s (settle n o) = refl
+ended-moved s (write n f) = refl
+ended-moved s (close key n) = refl
 ended-moved s take = refl
 
 ended-all_moved : (s : State) (ms : List Move) → (all_moved s ms).ended ≡ s.ended
@@ -39,6 +42,8 @@ ended-worked s event.EndOfInput = by s.ended
     by false = refl
 ended-worked s (event.Claim (role.Worker worker) (job.Scan n t)) = sym (or-false s.ended)
 ended-worked s (event.Claim (role.Worker worker) (job.Link n)) = sym (or-false s.ended)
+ended-worked s (event.Claim (role.Worker worker) (job.Write n)) = sym (or-false s.ended)
+ended-worked s (event.Written worker n f) = sym (or-false s.ended)
 ended-worked s (event.Claim (role.Door door) j) = sym (or-false s.ended)
 ended-worked s (event.Arrive p) = sym (or-false s.ended)
 ended-worked s (event.Record worker m q a) = sym (or-false s.ended)
@@ -67,5 +72,7 @@ shows state events h =
       tables = r.tables;
       tasks = λ n. tasks-read state (moves_in events) n r;
       outcomes = r.outcomes;
+      failures = r.failures;
+      closed = r.closes;
       ended = ap (λ (s : State). s.ended) h.replayed ∙ ended-from start events;
     }

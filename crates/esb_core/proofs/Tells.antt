@@ -11,7 +11,7 @@ use Rattle.esb_core.specs.declared.event.Event.{Event}
 use Rattle.esb_core.specs.declared.event.Event.TheVariants as event
 use Rattle.esb_core.specs.State.{Building, build_at}
 use Rattle.esb_core.specs.Steps.{told_deliver, told_record, told_pop, told_stale}
-use Rattle.esb_core.specs.Allowed.{allowed, is_closing, is_settled, may_arrive}
+use Rattle.esb_core.specs.Allowed.{allowed, is_closed, is_closing, may_arrive}
 use Rattle.esb_core.specs.History.{builds, owed, table, tasks, is_legal, replay, next}
 use Rattle.esb_core.specs.Laws.{ends_input, tells, IsOver, ShowsHistory}
 use Rattle.esb_core.proofs.Claims.{both_parts}
@@ -30,6 +30,7 @@ told-by events (event.Deliver worker n t p) legal =
     let h = shown events legal in
     ap (λ (ts : List Task). told_deliver ts p (build_at (replay events).builds n).outcome) (h.tasks n) ∙ ap (λ o. told_deliver (tasks events n) p o) (h.outcomes n)
 told-by events (event.Settle worker n o) legal = let h = shown events legal in ap told_stale (h.outcomes n)
+told-by events (event.Written worker n f) legal = refl
 told-by events event.Pop legal = let h = shown events legal in ap (λ os. told_pop (slice_get os 0)) h.owes
 told-by events (event.Arrive packet) legal = refl
 told-by events event.EndOfInput legal = refl
@@ -52,32 +53,32 @@ may-pop-by events legal = let h = shown events legal in ap (λ os. nat_lt 0 (len
 
 -- ---- the end
 
-each-settled : (bs : List Building) → list_all is_settled bs ≡ true → (n : ℕ) → n < length bs → IsSome (build_at bs n).outcome
-each-settled [] all n lt = absurd (omega arith)
-each-settled (b ∷ bs) all zero lt = (both_parts (is_settled b) (list_all is_settled bs) all).0
-each-settled (b ∷ bs) all (suc n) lt = each-settled bs (both_parts (is_settled b) (list_all is_settled bs) all).1 n (omega arith)
+each-closed : (bs : List Building) → list_all is_closed bs ≡ true → (n : ℕ) → n < length bs → (build_at bs n).closed ≡ true
+each-closed [] all n lt = absurd (omega arith)
+each-closed (b ∷ bs) all zero lt = (both_parts (is_closed b) (list_all is_closed bs) all).0
+each-closed (b ∷ bs) all (suc n) lt = each-closed bs (both_parts (is_closed b) (list_all is_closed bs) all).1 n (omega arith)
 
 both : (a b : Bool) → a ≡ true → b ≡ true → (a && b) ≡ true
 both a b h k = rw (h, k) refl
 
-all-settled : (bs : List Building) → ((n : ℕ) → n < length bs → IsSome (build_at bs n).outcome) → list_all is_settled bs ≡ true
-all-settled [] each = refl
-all-settled (b ∷ bs) each = both (is_settled b) (list_all is_settled bs) (each 0 (omega arith)) (all-settled bs (λ n lt. each (suc n) (omega arith)))
+all-closed : (bs : List Building) → ((n : ℕ) → n < length bs → (build_at bs n).closed ≡ true) → list_all is_closed bs ≡ true
+all-closed [] each = refl
+all-closed (b ∷ bs) each = both (is_closed b) (list_all is_closed bs) (each 0 (omega arith)) (all-closed bs (λ n lt. each (suc n) (omega arith)))
 
 pub closes-by : (events : List Event) → is_legal events ≡ true → (is_closing (replay events) ≡ true) ↔ IsOver events
 closes-by events legal = (over, back)
   where
     over : is_closing (replay events) ≡ true → IsOver events
     over e =
-        let parts = both_parts (replay events).ended (list_all is_settled (replay events).builds) e in
+        let parts = both_parts (replay events).ended (list_all is_closed (replay events).builds) e in
         let h = shown events legal in
         record {
           input = sym h.ended ∙ parts.0;
-          closed = λ n lt. subst (λ (o : Option Outcome). IsSome o) (h.outcomes n) (each-settled (replay events).builds parts.1 n (let same = h.number in omega (arith, same, lt)));
+          closed = λ n lt. sym (h.closed n) ∙ each-closed (replay events).builds parts.1 n (let same = h.number in omega (arith, same, lt));
         }
 
     back : IsOver events → is_closing (replay events) ≡ true
     back g =
         let h = shown events legal in
-        both (replay events).ended (list_all is_settled (replay events).builds) (h.ended ∙ g.input)
-        (all-settled (replay events).builds (λ n lt. subst (λ (o : Option Outcome). IsSome o) (sym (h.outcomes n)) (g.closed n (let same = h.number in omega (arith, same, lt)))))
+        both (replay events).ended (list_all is_closed (replay events).builds) (h.ended ∙ g.input)
+        (all-closed (replay events).builds (λ n lt. h.closed n ∙ g.closed n (let same = h.number in omega (arith, same, lt))))

@@ -6,7 +6,11 @@ use Rattle.std.proofs.Math.Bool.{or-false}
 use Rattle.std.proofs.lemmas.Bool.{false≢true}
 use Rattle.std.proofs.lemmas.Option.{slice_get_within}
 use Rattle.esb_ask.specs.declared.task.Task.{Task}
+use Rattle.esb_flags.specs.declared.options.Options.{Options}
+use Rattle.esb_ask.specs.declared.outcome.OutFile.{OutFile}
+use Rattle.esb_ask.specs.declared.outcome.Failures.{Failures}
 use Rattle.esb_ask.specs.declared.outcome.Outcome.{Outcome}
+use Rattle.esb_ask.specs.declared.outcome.Outcome.TheVariants as outcomes
 use Rattle.esb_ask.specs.Tasks.{same_task}
 use Rattle.esb_ask.proofs.SameTask.{equal-from_same_task, same_task-from_equal, same_task-refl}
 use Rattle.esb_core.specs.declared.event.Job.{Job}
@@ -18,18 +22,20 @@ use Rattle.esb_core.specs.declared.event.Event.TheVariants as event
 use Rattle.esb_core.specs.declared.event.Claimed.TheVariants as claimed
 use Rattle.esb_core.specs.State.{Building, State, build_at}
 use Rattle.esb_core.specs.Steps.{is_claim}
-use Rattle.esb_core.specs.Allowed.{allowed, claimed_or, first_from, first_job, has_task, is_closing, is_linker, is_scanned, is_settled, job_by, job_of, job_told, job_unless, link_if, names_job, or_next}
-use Rattle.esb_core.specs.History.{is_legal, moves_in, outcome, replay, tasks}
-use Rattle.esb_core.specs.Work.{claims_link, claims_task, delivers, does_task, earliest_from, gives_link, gives_task, is_done, is_open, link_is_open, open_job, open_job_of, open_task, scan_or_link, settles_by, unless_settled}
+use Rattle.esb_core.specs.Allowed.{allowed, claimed_or, first_from, first_job, has_task, is_closed, is_closing, is_linker, is_scanned, job_by, job_of, job_told, job_unless, link_if, names_job, or_next, write_if, writing_of}
+use Rattle.esb_core.specs.Order.{IsOrdered, IsSane}
+use Rattle.esb_core.specs.History.{Begun, build, is_legal, moves_in, outcome, replay, tasks}
+use Rattle.esb_core.specs.Work.{claims_link, claims_task, claims_write, delivers, does_task, earliest_from, gives_link, gives_task, is_done, is_open, link_is_open, open_job, open_job_by, open_job_of, open_task, open_write, scan_or_link, settles_by}
 use Rattle.esb_core.proofs.Claims.{both_parts}
 use Rattle.esb_core.proofs.Held.{IsHeld, any-push, gives-claims, held, left-true, or-true}
-use Rattle.esb_core.proofs.Jobs.{no_job}
-use Rattle.esb_core.proofs.Laws.{reads-legal}
+use Rattle.esb_core.proofs.Jobs.{no_job, shut-sane}
+use Rattle.esb_core.proofs.Laws.{ordered-legal, reads-legal}
 use Rattle.esb_core.proofs.Legal.{each_legal}
 use Rattle.esb_core.proofs.Once.{IsOnce, claimed-once, count-cons, count-none, count-take, take-next}
 use Rattle.esb_core.proofs.Moving.{count-push}
-use Rattle.esb_core.proofs.Readings.{same-number}
+use Rattle.esb_core.proofs.Readings.{build-read, same-number}
 use Rattle.esb_core.proofs.Tasks.{tasks-are}
+use Rattle.esb_core.proofs.Writes.{IsWritten, written}
 
 -- ---- tests of lists
 
@@ -116,6 +122,8 @@ claimer s (event.Claim (role.Worker v) (job.Scan m u)) may n t is =
       ap (λ c. c && (nat_eq m n && same_task u t)) (eq-eqb v v refl) ∙ ap (λ c. c && same_task u t) parts.0 ∙ same_task-from_equal u t (sym (equal-from_same_task t u parts.1)),
     )
 claimer s (event.Claim (role.Worker v) (job.Link m)) may n t is = absurd (false≢true is)
+claimer s (event.Claim (role.Worker v) (job.Write m)) may n t is = absurd (false≢true is)
+claimer s (event.Written v m f) may n t is = absurd (false≢true is)
 claimer s (event.Claim (role.Door door) j) may n t is = absurd (false≢true may)
 claimer s (event.Arrive packet) may n t is = absurd (false≢true is)
 claimer s event.EndOfInput may n t is = absurd (false≢true is)
@@ -151,6 +159,7 @@ delivers-does w n t event.EndOfInput is = absurd (false≢true is)
 delivers-does w n t (event.Record worker m q a) is = absurd (false≢true is)
 delivers-does w n t (event.Settle worker m o) is = absurd (false≢true is)
 delivers-does w n t event.Pop is = absurd (false≢true is)
+delivers-does w n t (event.Written v m f) is = absurd (false≢true is)
 
 deliverer : (n : ℕ) (t : Task) (e : Event) → does_task n t e ≡ true → (w : ℕ) × (delivers w n t e ≡ true)
 deliverer n t (event.Deliver v m u p) is = (v, ap (λ c. c && (nat_eq m n && same_task u t)) (eq-eqb v v refl) ∙ is)
@@ -160,6 +169,7 @@ deliverer n t event.EndOfInput is = absurd (false≢true is)
 deliverer n t (event.Record worker m q a) is = absurd (false≢true is)
 deliverer n t (event.Settle worker m o) is = absurd (false≢true is)
 deliverer n t event.Pop is = absurd (false≢true is)
+deliverer n t (event.Written v m f) is = absurd (false≢true is)
 
 delivered-by : (n : ℕ) (t : Task) (es : List Event) → list_any (does_task n t) es ≡ true → (w : ℕ) × (list_any (delivers w n t) es ≡ true)
 delivered-by n t [] some = absurd (false≢true some)
@@ -180,6 +190,8 @@ link-claims w n (event.Record worker m q a) is = absurd (false≢true is)
 link-claims w n (event.Deliver worker m u p) is = absurd (false≢true is)
 link-claims w n (event.Settle worker m o) is = absurd (false≢true is)
 link-claims w n event.Pop is = absurd (false≢true is)
+link-claims w n (event.Claim (role.Worker v) (job.Write m)) is = absurd (false≢true is)
+link-claims w n (event.Written v m f) is = absurd (false≢true is)
 
 -- an event gives a task to one worker
 one-worker : (v w n : ℕ) (t : Task) (e : Event) → gives_task v n t e ≡ true → gives_task w n t e ≡ true → v ≡ w
@@ -193,6 +205,8 @@ one-worker v w n t (event.Record worker m q a) is its = absurd (false≢true is)
 one-worker v w n t (event.Deliver worker m u p) is its = absurd (false≢true is)
 one-worker v w n t (event.Settle worker m o) is its = absurd (false≢true is)
 one-worker v w n t event.Pop is its = absurd (false≢true is)
+one-worker v w n t (event.Claim (role.Worker k) (job.Write m)) is its = absurd (false≢true is)
+one-worker v w n t (event.Written k m f) is its = absurd (false≢true is)
 
 -- a task that two workers were given was claimed twice
 two-given : (v w n : ℕ) (t : Task) (es : List Event) → (v ≡ w → ⊥) → list_any (gives_task v n t) es ≡ true → list_any (gives_task w n t) es ≡ true → 2 ≤ count_by (claims_task n t) es
@@ -217,7 +231,7 @@ two-given v w n t (e ∷ es) apart some other = by (gives_task v n t e) (gives_t
 
 -- ---- one build
 
-module _ (b : Building) (n : ℕ) (es : List Event) (once : IsOnce b n es) (h : IsHeld b n es) (same : b.tasks ≡ tasks es n) (given : (t : Task) → list_any (claims_task n t) es ≡ true → IsGiven n t es) where
+module _ (b : Building) (n : ℕ) (es : List Event) (once : IsOnce b n es) (h : IsHeld b n es) (put : IsWritten b n es) (own : b.options ≡ (build es n).options) (same : b.tasks ≡ tasks es n) (given : (t : Task) → list_any (claims_task n t) es ≡ true → IsGiven n t es) where
   was-claimed : (j : ℕ) (t : Task) → j < b.claimed → slice_get b.tasks j ≡ Some t → list_any (claims_task n t) es ≡ true
   was-claimed j t lt at =
       let some = placed b.tasks j b.claimed t at lt in
@@ -321,11 +335,28 @@ module _ (b : Building) (n : ℕ) (es : List Event) (once : IsOnce b n es) (h : 
     by_task (Some t) at = refl
     by_task None over = ap (link_if n) (link-is_open over)
 
-  job-is : b.outcome ≡ outcome es n → job_of n b ≡ open_job_of es n
-  job-is is = by b.outcome refl ∙ ap (λ (o : Option Outcome). unless_settled o (scan_or_link n (open_task es n) (link_is_open es n))) is
+  -- no event gave the writing where no worker writes, and the files aren't put
+  free-is : (is_none b.writer && is_none b.failed) ≡ not (list_any (claims_write n) es)
+  free-is = by (list_any (claims_write n) es) refl
     where
-      by : (o : Option Outcome) → b.outcome ≡ o → job_unless n b o ≡ unless_settled o (scan_or_link n (open_task es n) (link_is_open es n))
-      by (Some o) some = refl
+      by : (t : Bool) → list_any (claims_write n) es ≡ t → (is_none b.writer && is_none b.failed) ≡ not t
+      by true some = put.taken some
+      by false none =
+          let is = put.free none in
+          ap (λ (o : Option ℕ). is_none o && is_none b.failed) is.0 ∙ ap (λ (f : Option Failures). is_none f) is.1
+
+  write-is_open : (o : Outcome) → writing_of n b o ≡ open_write es n o
+  write-is_open (outcomes.Files files) =
+      ap (λ (p : Options). write_if n (p.write && (is_none b.writer && is_none b.failed))) own ∙ ap (λ t. write_if n ((build es n).options.write && t)) free-is
+  write-is_open (outcomes.Errors messages) = refl
+  write-is_open outcomes.Canceled = refl
+  write-is_open outcomes.Memory = refl
+
+  job-is : b.outcome ≡ outcome es n → job_of n b ≡ open_job_of es n
+  job-is is = by b.outcome refl ∙ ap (λ (o : Option Outcome). open_job_by es n o) is
+    where
+      by : (o : Option Outcome) → b.outcome ≡ o → job_unless n b o ≡ open_job_by es n o
+      by (Some o) some = write-is_open o
       by None none = by_task none (slice_get b.tasks b.claimed) refl ∙ ap (λ (t : Option Task). scan_or_link n t (link_is_open es n)) (sym task-is)
 
 -- ---- the builds
@@ -333,7 +364,7 @@ module _ (b : Building) (n : ℕ) (es : List Event) (once : IsOnce b n es) (h : 
 job-of : (events : List Event) → is_legal events ≡ true → (n : ℕ) → job_of n (build_at (replay events).builds n) ≡ open_job_of events n
 job-of events legal n =
     let read = reads-legal events legal in
-    job-is (build_at (replay events).builds n) n events (claimed-once events legal n) (held events legal n) (tasks-are events legal n) (given-by events legal n) (read.outcomes n)
+    job-is (build_at (replay events).builds n) n events (claimed-once events legal n) (held events legal n) (written events legal n) (sym (ap (λ (b : Begun). b.options) (build-read (replay events) (moves_in events) n read))) (tasks-are events legal n) (given-by events legal n) (read.outcomes n)
 
 earliest-is : (events : List Event) (n : ℕ) (bs : List Building) → ((k : ℕ) → job_of (n + k) (build_at bs k) ≡ open_job_of events (n + k)) → first_from n bs ≡ earliest_from events n (length bs)
 earliest-is events n [] each = refl
@@ -375,15 +406,15 @@ told-job events r j legal =
     let cases = is_job (is_closing (replay events)) (first_job (replay events) r) j in
     (λ e. sym same ∙ cases.0 e, λ e. cases.1 (same ∙ e))
 
-none-left : (n : ℕ) (bs : List Building) → list_all is_settled bs ≡ true → first_from n bs ≡ None
-none-left n [] all = refl
-none-left n (b ∷ bs) all =
-    let parts = both_parts (is_settled b) (list_all is_settled bs) all in
-    ap (λ (j : Option Job). or_next j (first_from (n + 1) bs)) (no_job n b parts.0) ∙ none-left (n + 1) bs parts.1
+none-left : (n : ℕ) (bs : List Building) → ((k : ℕ) → IsSane (build_at bs k)) → list_all is_closed bs ≡ true → first_from n bs ≡ None
+none-left n [] sane all = refl
+none-left n (b ∷ bs) sane all =
+    let parts = both_parts (is_closed b) (list_all is_closed bs) all in
+    ap (λ (j : Option Job). or_next j (first_from (n + 1) bs)) (no_job n b (shut-sane b (sane 0) parts.0)) ∙ none-left (n + 1) bs (λ k. sane (suc k)) parts.1
 
-closing-none : (s : State) (r : Role) → is_closing s ≡ true → first_job s r ≡ None
-closing-none s (role.Worker worker) closing = none-left 0 s.builds (both_parts s.ended (list_all is_settled s.builds) closing).1
-closing-none s (role.Door door) closing = refl
+closing-none : (s : State) (r : Role) → IsOrdered s → is_closing s ≡ true → first_job s r ≡ None
+closing-none s (role.Worker worker) ordered closing = none-left 0 s.builds ordered.sane (both_parts s.ended (list_all is_closed s.builds) closing).1
+closing-none s (role.Door door) ordered closing = refl
 
 is_end : (closing : Bool) (o : Option Job) → claimed_or closing o ≡ claimed.Closing → closing ≡ true
 is_end closing (Some j) e = absurd (let f : ⊥ = cc in f)
@@ -402,7 +433,7 @@ module _ (events : List Event) (r : Role) (legal : is_legal events ≡ true) {Ov
     λ e. over.0 (is_end (is_closing (replay events)) (first_job (replay events) r) e),
     λ e.
         let closing = over.1 e in
-        ap (λ (o : Option Job). claimed_or (is_closing (replay events)) o) (closing-none (replay events) r closing) ∙ ap (λ (c : Bool). claimed_or c None) closing,
+        ap (λ (o : Option Job). claimed_or (is_closing (replay events)) o) (closing-none (replay events) r (ordered-legal events legal) closing) ∙ ap (λ (c : Bool). claimed_or c None) closing,
   )
 
   goes_on : (x : Bool) → is_closing (replay events) ≡ x → (Over → ⊥) → x ≡ false

@@ -5,5 +5,7 @@ use Rattle.esb_flags.specs.declared.options.Options.{Options}
 pub record Known : Type 0 where
   -- the contexts by their keys, in the order in which they were made
   pub contexts : List (ℕ × Options)
-  -- the builds that aren't settled, by the keys of their contexts
+  -- the keys of those that are disposed, and whose build isn't closed
+  pub retired : List ℕ
+  -- the builds that aren't closed, by the keys of their contexts
   pub active : List (ℕ × ℕ)

@@ -1,5 +1,5 @@
 -- What each event changes in what a list answers, and which event decides each answer.
-use Rattle.std.specs.Prelude.{◌≡◌, ◌⊎◌, ℕ, ◌<◌, ◌≤◌, Bool, true, false, ◌&&◌, if◌then◌else◌, nat_eq, List, [], ◌∷◌, ◌++◌, length, filter, slice_get, Option, None, Some, IsSome, Ok, Err}
+use Rattle.std.specs.Prelude.{◌≡◌, ◌⊎◌, ℕ, ◌<◌, ◌≤◌, Bool, true, false, ◌&&◌, ◌||◌, not, if◌then◌else◌, nat_eq, List, [], ◌∷◌, ◌++◌, length, filter, slice_get, Option, None, Some, is_none, is_some, IsSome, Ok, Err}
 use Rattle.std.specs.List.{list_any}
 use Rattle.esb_wire.specs.declared.value.Packet.{Packet}
 use Rattle.esb_flags.specs.declared.options.Options.{Options}
@@ -9,6 +9,7 @@ use Rattle.esb_flags.specs.Fields.{Answer as Asked}
 use Rattle.esb_flags.specs.Command.{asked}
 use Rattle.esb_ask.specs.declared.question.Question.{Question}
 use Rattle.esb_ask.specs.declared.answer.Answer.{Answer}
+use Rattle.esb_ask.specs.declared.outcome.Failures.{Failures}
 use Rattle.esb_ask.specs.declared.outcome.Outcome.{Outcome}
 use Rattle.esb_ask.specs.declared.outcome.Outcome.TheVariants as outcome_of
 use Rattle.esb_ask.specs.declared.product.Product.{Product}
@@ -24,7 +25,7 @@ use Rattle.esb_core.specs.State.{State, build_at}
 use Rattle.esb_core.specs.Sizes.{named, opened, files, bytes_in, most_answers, most_contents, most_files, is_overfull, has_too_many, too_large}
 use Rattle.esb_core.specs.Moves.{Move, join, key_of, options_of, refusal, most_builds, most_contexts, most_waiting}
 use Rattle.esb_core.specs.Steps.{results, without, told_deliver, told_pop, told_record, told_stale}
-use Rattle.esb_core.specs.History.{Begun, met_in, moves_in, contexts, context, active_build, builds, build, waiting, outcome, closed, table, tasks, all_owed, owed}
+use Rattle.esb_core.specs.History.{Begun, met_in, moves_in, contexts, context, active_build, builds, build, waiting, outcome, closed, failed, retired_in, table, tasks, all_owed, owed}
 
 -- ---- requests
 
@@ -78,16 +79,28 @@ abbrev pub joined_build : List Event → Option ℕ → ℕ
 joined_build before (Some n) = n
 joined_build before None = length (builds before)
 
-abbrev pub if_same : ℕ → ℕ → ℕ → List ℕ
-if_same m n id = if nat_eq m n then id ∷ [] else []
+abbrev pub if_same : ℕ → ℕ → ℕ → Bool → List (ℕ × Bool)
+if_same m n id result = if nat_eq m n then (id, result) ∷ [] else []
 
-abbrev pub waits_by : List Event → ℕ → ℕ → Verdict → List ℕ
-waits_by before n id (accepted (command.Build key options)) = if options.context then [] else if_same (length (builds before)) n id
-waits_by before n id (accepted (command.Rebuild key)) = if_same (joined_build before (active_build before key)) n id
+-- whether there is a build and it is settled
+abbrev pub is_settled_build : List Event → Option ℕ → Bool
+is_settled_build before None = false
+is_settled_build before (Some n) = is_some (outcome before n)
+
+-- a cancel or a dispose waits for the close of an active build that is settled
+abbrev pub waits_closed : List Event → ℕ → ℕ → Option ℕ → List (ℕ × Bool)
+waits_closed before n id None = []
+waits_closed before n id (Some m) = if is_some (outcome before m) then if_same m n id false else []
+
+abbrev pub waits_by : List Event → ℕ → ℕ → Verdict → List (ℕ × Bool)
+waits_by before n id (accepted (command.Build key options)) = if options.context then [] else if_same (length (builds before)) n id true
+waits_by before n id (accepted (command.Rebuild key)) = if_same (joined_build before (active_build before key)) n id true
+waits_by before n id (accepted (command.Cancel key)) = waits_closed before n id (active_build before key)
+waits_by before n id (accepted (command.Dispose key)) = waits_closed before n id (active_build before key)
 waits_by before n id v = []
 
--- the id of the request that from this event on waits for the build
-abbrev pub waits : List Event → ℕ → Event → List ℕ
+-- the request that from this event on waits for the build: its id, and whether it is answered by the result
+abbrev pub waits : List Event → ℕ → Event → List (ℕ × Bool)
 waits before n (event.Arrive packet) = if packet.request then waits_by before n packet.id (verdict before packet) else []
 waits before n e = []
 
@@ -97,7 +110,7 @@ abbrev pub canceled_if : ℕ → Option ℕ → Option Outcome
 canceled_if n None = None
 canceled_if n (Some m) = if nat_eq m n then Some outcome_of.Canceled else None
 
--- the outcome that a command gives to the build: it cancels the active build of its context
+-- the outcome that a command gives to the build: it cancels the active build of its context, which stays where it is settled
 abbrev pub settled_by : List Event → ℕ → Verdict → Option Outcome
 settled_by before n (accepted (command.Cancel key)) = canceled_if n (active_build before key)
 settled_by before n (accepted (command.Dispose key)) = canceled_if n (active_build before key)
@@ -114,6 +127,11 @@ overfull before n question answer = is_overfull (kept (table before n) question 
 abbrev pub overopened : List Event → ℕ → Product → Bool
 overopened before n p = has_too_many (opened (tasks before n) (named p))
 
+-- whether a build stays open once it is settled so: its files are to be put
+abbrev pub is_to_write : Begun → Outcome → Bool
+is_to_write b (outcome_of.Files files) = b.options.write
+is_to_write b o = false
+
 -- the outcome that an event gives to the build
 abbrev pub settles : List Event → ℕ → Event → Option Outcome
 settles before n (event.Arrive packet) = if packet.request then settled_by before n (verdict before packet) else None
@@ -121,6 +139,32 @@ settles before n (event.Settle worker m o) = if nat_eq m n then Some o else None
 settles before n (event.Record worker m question answer) = if nat_eq m n then large_if (overfull before m question answer) else None
 settles before n (event.Deliver worker m t p) = if nat_eq m n then large_if (overopened before m p) else None
 settles before n e = None
+
+-- ---- closes
+
+-- a command closes the active build of its context, unless that is settled
+abbrev pub closed_if : List Event → ℕ → Option ℕ → Bool
+closed_if before n None = false
+closed_if before n (Some m) = nat_eq m n && is_none (outcome before m)
+
+abbrev pub closed_by : List Event → ℕ → Verdict → Bool
+closed_by before n (accepted (command.Cancel key)) = closed_if before n (active_build before key)
+closed_by before n (accepted (command.Dispose key)) = closed_if before n (active_build before key)
+closed_by before n v = false
+
+-- whether an event closes the build: it settles one that puts no files, or its files are put
+abbrev pub closes : List Event → ℕ → Event → Bool
+closes before n (event.Arrive packet) = packet.request && closed_by before n (verdict before packet)
+closes before n (event.Settle worker m o) = nat_eq m n && (is_none (outcome before m) && not (is_to_write (build before m) o))
+closes before n (event.Written worker m failures) = nat_eq m n
+closes before n (event.Record worker m question answer) = nat_eq m n && (is_none (outcome before m) && overfull before m question answer)
+closes before n (event.Deliver worker m t p) = nat_eq m n && (is_none (outcome before m) && overopened before m p)
+closes before n e = false
+
+-- which files of the build were not put, as an event says that comes after others
+abbrev pub fails : ℕ → Option Failures → Event → Option Failures
+fails n so_far (event.Written worker m failures) = if nat_eq m n then Some failures else so_far
+fails n so_far e = so_far
 
 -- the earliest event that settles the build gives this outcome
 pub record IsSettledBy (events : List Event) (n : ℕ) (o : Outcome) : Type 0 where
@@ -182,18 +226,18 @@ is_about q pair = same_question q pair.0
 abbrev pub empty : ℕ → List Out
 empty id = out.Reply id body.Empty ∷ []
 
--- the results for the requests that wait for the build, where there is one
-abbrev pub results_for : List Event → Option ℕ → List Out
-results_for before None = []
-results_for before (Some n) = results n (waiting before n)
+-- what a cancel or a dispose owes: its own reply behind those of a build that it cancels, and nothing yet where it waits
+abbrev pub stopped : List Event → ℕ → Option ℕ → List Out
+stopped before id None = empty id
+stopped before id (Some n) = if is_some (outcome before n) then [] else results n (waiting before n) ++ empty id
 
 -- what a request owes at once: the reply of a request that waits for no build, behind the results of a build that it cancels
 abbrev pub owed_by : List Event → ℕ → Verdict → List Out
 owed_by before id (refused text) = out.Reply id (body.Error text) ∷ []
 owed_by before id (accepted (command.Build key options)) = if options.context then empty id else []
 owed_by before id (accepted (command.Rebuild key)) = []
-owed_by before id (accepted (command.Cancel key)) = results_for before (active_build before key) ++ empty id
-owed_by before id (accepted (command.Dispose key)) = results_for before (active_build before key) ++ empty id
+owed_by before id (accepted (command.Cancel key)) = stopped before id (active_build before key)
+owed_by before id (accepted (command.Dispose key)) = stopped before id (active_build before key)
 owed_by before id (accepted (command.Watch key)) = []
 owed_by before id (accepted (command.Serve key port)) = []
 owed_by before id (accepted command.Ping) = empty id
@@ -206,34 +250,37 @@ abbrev pub results_if : Bool → List Event → ℕ → List Out
 results_if true before n = results_unless before n (outcome before n)
 results_if false before n = []
 
--- what an event owes: a settled build the results for all that wait for it, in the order in which they came
+-- what an event owes: a build that is closed the replies to all that wait for it, in the order in which they came
 abbrev pub owes_at : List Event → Event → List Out
 owes_at before (event.Arrive packet) = if packet.request then owed_by before packet.id (verdict before packet) else []
-owes_at before (event.Settle worker n o) = results_unless before n (outcome before n)
+owes_at before (event.Settle worker n o) = if is_to_write (build before n) o then [] else results_unless before n (outcome before n)
+owes_at before (event.Written worker n failures) = results n (waiting before n)
 owes_at before (event.Record worker n question answer) = results_if (overfull before n question answer) before n
 owes_at before (event.Deliver worker n t p) = results_if (overopened before n p) before n
 owes_at before e = []
 
--- whether it is the result of the build
+-- whether it is a reply to a request that waited for the build
 abbrev pub is_result : ℕ → Out → Bool
 is_result n (out.Reply id body.Empty) = false
 is_result n (out.Reply id (body.Error text)) = false
 is_result n (out.Reply id (body.Result m)) = nat_eq m n
+is_result n (out.Reply id (body.Closed m)) = nat_eq m n
 
--- the results of the build among all that was ever owed
+-- the replies to those requests among all that was ever owed
 abbrev pub results_of : List Event → ℕ → List Out
 results_of events n = filter (is_result n) (all_owed events)
 
--- one result for each request that waits for a build, once that is settled, and none before
-abbrev pub results_once : ℕ → List ℕ → Option Outcome → List Out
-results_once n ids None = []
-results_once n ids (Some o) = results n ids
+-- one reply for each request that waits for a build, once that is closed, and none before
+abbrev pub results_once : ℕ → List (ℕ × Bool) → Bool → List Out
+results_once n waiters false = []
+results_once n waiters true = results n waiters
 
--- whether it is a reply to one of these ids, and no result
+-- whether it is a reply to one of these ids that waited for no build
 abbrev pub is_own : (ℕ → Bool) → Out → Bool
 is_own ids (out.Reply id body.Empty) = ids id
 is_own ids (out.Reply id (body.Error text)) = ids id
 is_own ids (out.Reply id (body.Result m)) = false
+is_own ids (out.Reply id (body.Closed m)) = false
 
 -- whether an event is a request with one of these ids
 abbrev pub is_request : (ℕ → Bool) → Event → Bool
@@ -242,44 +289,57 @@ is_request ids e = false
 
 -- whether a request with one of these ids comes to wait for a build
 abbrev pub is_join : (ℕ → Bool) → Move → Bool
-is_join ids (join n id) = ids id
+is_join ids (join n id result) = ids id
 is_join ids m = false
 
 -- ---- contexts
 
--- once the active build is settled, the context that only it had is gone
-abbrev pub gone_if : ℕ → Bool → Option ℕ → List (ℕ × Options) → List (ℕ × Options)
-gone_if key stays None contexts = contexts
-gone_if key stays (Some n) contexts = if stays then contexts else without key contexts
+-- once the active build is canceled, the context that only it had is gone
+abbrev pub gone_if : List Event → ℕ → Bool → Option ℕ → List (ℕ × Options) → List (ℕ × Options)
+gone_if before key stays None contexts = contexts
+gone_if before key stays (Some n) contexts = if is_some (outcome before n) || stays then contexts else without key contexts
+
+-- a disposed context stays until its build is closed, where that is settled
+abbrev pub disposed_if : List Event → ℕ → Option ℕ → List (ℕ × Options) → List (ℕ × Options)
+disposed_if before key active contexts = if is_settled_build before active then contexts else without key contexts
 
 -- the contexts once a request came
 abbrev pub contexts_by : List Event → Verdict → List (ℕ × Options)
 contexts_by before (accepted (command.Build key options)) = contexts before ++ (key, options) ∷ []
-contexts_by before (accepted (command.Cancel key)) = gone_if key (options_of (context before key)).context (active_build before key) (contexts before)
-contexts_by before (accepted (command.Dispose key)) = without key (contexts before)
+contexts_by before (accepted (command.Cancel key)) = gone_if before key (options_of (context before key)).context (active_build before key) (contexts before)
+contexts_by before (accepted (command.Dispose key)) = disposed_if before key (active_build before key) (contexts before)
 contexts_by before v = contexts before
 
-abbrev pub gone_unless : Begun → Option Outcome → List (ℕ × Options) → List (ℕ × Options)
-gone_unless b None contexts = if b.options.context then contexts else without b.key contexts
-gone_unless b (Some o) contexts = contexts
+-- whether the context with this key is disposed, and its build not closed
+abbrev pub is_retired : List Event → ℕ → Bool
+is_retired before key = list_any (nat_eq key) (retired_in (moves_in before))
 
-abbrev pub gone_large : Bool → Begun → Option Outcome → List (ℕ × Options) → List (ℕ × Options)
-gone_large true b o contexts = gone_unless b o contexts
-gone_large false b o contexts = contexts
+-- whether the context of a build stays once the build is closed
+abbrev pub stays_after : List Event → ℕ → Bool
+stays_after before n = (build before n).options.context && not (is_retired before (build before n).key)
+
+abbrev pub gone_unless : ℕ → Bool → Option Outcome → List (ℕ × Options) → List (ℕ × Options)
+gone_unless key stays None contexts = if stays then contexts else without key contexts
+gone_unless key stays (Some o) contexts = contexts
+
+abbrev pub gone_large : Bool → ℕ → Bool → Option Outcome → List (ℕ × Options) → List (ℕ × Options)
+gone_large true key stays o contexts = gone_unless key stays o contexts
+gone_large false key stays o contexts = contexts
 
 -- the contexts once an event came: a request makes one or removes one, and a build that is settled takes the one that only it had
 abbrev pub contexts_at : List Event → Event → List (ℕ × Options)
 contexts_at before (event.Arrive packet) = if packet.request then contexts_by before (verdict before packet) else contexts before
-contexts_at before (event.Settle worker n o) = gone_unless (build before n) (outcome before n) (contexts before)
-contexts_at before (event.Record worker n question answer) = gone_large (overfull before n question answer) (build before n) (outcome before n) (contexts before)
-contexts_at before (event.Deliver worker n t p) = gone_large (overopened before n p) (build before n) (outcome before n) (contexts before)
+contexts_at before (event.Settle worker n o) = if is_to_write (build before n) o then contexts before else gone_unless (build before n).key (stays_after before n) (outcome before n) (contexts before)
+contexts_at before (event.Written worker n failures) = if stays_after before n then contexts before else without (build before n).key (contexts before)
+contexts_at before (event.Record worker n question answer) = gone_large (overfull before n question answer) (build before n).key (stays_after before n) (outcome before n) (contexts before)
+contexts_at before (event.Deliver worker n t p) = gone_large (overopened before n p) (build before n).key (stays_after before n) (outcome before n) (contexts before)
 contexts_at before e = contexts before
 
--- the build is the one of the context with this key that isn't settled
+-- the build is the one of the context with this key that isn't closed
 pub record IsActiveBuild (events : List Event) (key n : ℕ) : Type 0 where
   pub begun : n < length (builds events)
   pub its_key : (build events n).key ≡ key
-  pub unsettled : outcome events n ≡ None
+  pub unclosed : closed events n ≡ false
 
 -- how many there are at most of each
 pub record IsWithinLimits (events : List Event) : Type 0 where
@@ -307,6 +367,8 @@ pub record ShowsHistory (state : State) (events : List Event) : Type 0 where
   pub tables : (n : ℕ) → (build_at state.builds n).table ≡ table events n
   pub tasks : (n : ℕ) → (build_at state.builds n).tasks ≡ tasks events n
   pub outcomes : (n : ℕ) → (build_at state.builds n).outcome ≡ outcome events n
+  pub failures : (n : ℕ) → (build_at state.builds n).failed ≡ failed events n
+  pub closed : (n : ℕ) → (build_at state.builds n).closed ≡ closed events n
   pub ended : state.ended ≡ list_any ends_input events
 
 -- what the machine tells of an event that comes after these

@@ -5,6 +5,7 @@ use Rattle.esb_ask.specs.declared.question.Question.{Question}
 use Rattle.esb_ask.specs.declared.answer.Answer.{Answer}
 use Rattle.esb_ask.specs.declared.task.Task.{Task}
 use Rattle.esb_ask.specs.declared.outcome.Outcome.{Outcome}
+use Rattle.esb_ask.specs.declared.outcome.Failures.{Failures}
 use Rattle.esb_core.specs.declared.out.Out.{Out}
 
 -- a build
@@ -12,8 +13,8 @@ pub record Building : Type 0 where
   -- the key of its context
   pub key : ℕ
   pub options : Options
-  -- the ids of the requests that wait for it, in the order in which they came
-  pub waiting : List ℕ
+  -- the requests that wait for it, in the order in which they came: each id, and whether it is answered by the result
+  pub waiting : List (ℕ × Bool)
   -- the first answers to its questions
   pub table : List (Question × Answer)
   -- its tasks, in the order in which they were opened
@@ -26,11 +27,19 @@ pub record Building : Type 0 where
   pub linker : Option ℕ
   -- how it was settled
   pub outcome : Option Outcome
+  -- the worker that has claimed the writing of its files
+  pub writer : Option ℕ
+  -- which files were not put, once the others were
+  pub failed : Option Failures
+  -- whether the requests that wait for it are answered, and none can wait any more
+  pub closed : Bool
 
 pub record State : Type 0 where
   -- the contexts by their keys, in the order in which they were made
   pub contexts : List (ℕ × Options)
-  -- the builds that aren't settled, by the keys of their contexts
+  -- the keys of the contexts that are disposed, and whose build isn't closed
+  pub retired : List ℕ
+  -- the builds that aren't closed, by the keys of their contexts
   pub active : List (ℕ × ℕ)
   -- the builds in the order in which they began
   pub builds : List Building
@@ -41,7 +50,7 @@ pub record State : Type 0 where
 
 -- before any event
 abbrev pub start : State
-start = record { contexts = []; active = []; builds = []; owed = []; ended = false }
+start = record { contexts = []; retired = []; active = []; builds = []; owed = []; ended = false }
 
 abbrev pub no_options : Options
 no_options = record {
@@ -55,7 +64,7 @@ no_options = record {
 
 -- what stands where there is no build
 abbrev pub no_build : Building
-no_build = record { key = 0; options = no_options; waiting = []; table = []; tasks = []; claimed = 0; claims = []; linker = None; outcome = None }
+no_build = record { key = 0; options = no_options; waiting = []; table = []; tasks = []; claimed = 0; claims = []; linker = None; outcome = None; writer = None; failed = None; closed = false }
 
 -- the build of a number
 abbrev pub build_at : List Building → ℕ → Building

@@ -12,8 +12,9 @@ use Rattle.esb_core.specs.declared.event.Job.TheVariants as job
 use Rattle.esb_core.specs.declared.event.Event.{Event}
 use Rattle.esb_core.specs.declared.event.Event.TheVariants as event
 use Rattle.esb_core.specs.Sizes.{named, opened, has_too_many}
-use Rattle.esb_core.specs.Allowed.{link_if, or_next}
-use Rattle.esb_core.specs.History.{builds, outcome, tasks}
+use Rattle.esb_core.specs.Allowed.{link_if, or_next, write_if}
+use Rattle.esb_core.specs.Laws.{is_to_write}
+use Rattle.esb_core.specs.History.{build, builds, outcome, tasks}
 
 -- ---- claims
 
@@ -21,12 +22,21 @@ use Rattle.esb_core.specs.History.{builds, outcome, tasks}
 abbrev pub claims_task : ℕ → Task → Event → Bool
 claims_task n t (event.Claim r (job.Scan m u)) = nat_eq m n && same_task t u
 claims_task n t (event.Claim r (job.Link m)) = false
+claims_task n t (event.Claim r (job.Write m)) = false
 claims_task n t e = false
 
 abbrev pub claims_link : ℕ → Event → Bool
 claims_link n (event.Claim r (job.Scan m u)) = false
 claims_link n (event.Claim r (job.Link m)) = nat_eq m n
+claims_link n (event.Claim r (job.Write m)) = false
 claims_link n e = false
+
+-- whether an event gives the writing of the build's files
+abbrev pub claims_write : ℕ → Event → Bool
+claims_write n (event.Claim r (job.Write m)) = nat_eq m n
+claims_write n (event.Claim r (job.Scan m u)) = false
+claims_write n (event.Claim r (job.Link m)) = false
+claims_write n e = false
 
 -- ---- what a worker holds
 
@@ -34,14 +44,29 @@ claims_link n e = false
 abbrev pub gives_task : ℕ → ℕ → Task → Event → Bool
 gives_task worker n t (event.Claim (role.Worker w) (job.Scan m u)) = nat_eq w worker && (nat_eq m n && same_task u t)
 gives_task worker n t (event.Claim (role.Worker w) (job.Link m)) = false
+gives_task worker n t (event.Claim (role.Worker w) (job.Write m)) = false
 gives_task worker n t (event.Claim (role.Door door) j) = false
 gives_task worker n t e = false
 
 abbrev pub gives_link : ℕ → ℕ → Event → Bool
 gives_link worker n (event.Claim (role.Worker w) (job.Scan m u)) = false
 gives_link worker n (event.Claim (role.Worker w) (job.Link m)) = nat_eq w worker && nat_eq m n
+gives_link worker n (event.Claim (role.Worker w) (job.Write m)) = false
 gives_link worker n (event.Claim (role.Door door) j) = false
 gives_link worker n e = false
+
+-- whether an event gives it the writing of the build's files
+abbrev pub gives_write : ℕ → ℕ → Event → Bool
+gives_write worker n (event.Claim (role.Worker w) (job.Write m)) = nat_eq w worker && nat_eq m n
+gives_write worker n (event.Claim (role.Worker w) (job.Scan m u)) = false
+gives_write worker n (event.Claim (role.Worker w) (job.Link m)) = false
+gives_write worker n (event.Claim (role.Door door) j) = false
+gives_write worker n e = false
+
+-- whether an event says that the build's files are put
+abbrev pub writes_it : ℕ → Event → Bool
+writes_it n (event.Written w m failures) = nat_eq m n
+writes_it n e = false
 
 -- whether an event is the worker's delivery of the task
 abbrev pub delivers : ℕ → ℕ → Task → Event → Bool
@@ -60,6 +85,10 @@ holds_task events worker n t = list_any (gives_task worker n t) events && not (l
 -- the worker was given the link, and has given no outcome of the build
 abbrev pub holds_link : List Event → ℕ → ℕ → Bool
 holds_link events worker n = list_any (gives_link worker n) events && not (list_any (settles_by worker n) events)
+
+-- the worker was given the writing of the build's files, which it hasn't said to be put
+abbrev pub holds_write : List Event → ℕ → ℕ → Bool
+holds_write events worker n = list_any (gives_write worker n) events && not (list_any (writes_it n) events)
 
 -- the worker holds a task of the build
 pub record HoldsTask (events : List Event) (worker n : ℕ) : Type 0 where
@@ -108,9 +137,17 @@ abbrev pub scan_or_link : ℕ → Option Task → Bool → Option Job
 scan_or_link n (Some t) link = Some (job.Scan n t)
 scan_or_link n None link = link_if n link
 
--- the first open job of a build: its first open task, or else its link if that is open; none once it is settled
+-- the writing of a build's files, which no event gave to a worker, once it is settled with files that it puts
+abbrev pub open_write : List Event → ℕ → Outcome → Option Job
+open_write events n o = write_if n (is_to_write (build events n) o && not (list_any (claims_write n) events))
+
+abbrev pub open_job_by : List Event → ℕ → Option Outcome → Option Job
+open_job_by events n None = scan_or_link n (open_task events n) (link_is_open events n)
+open_job_by events n (Some o) = open_write events n o
+
+-- the first open job of a build: its first open task, or else its link if that is open; once it is settled, the writing of its files
 abbrev pub open_job_of : List Event → ℕ → Option Job
-open_job_of events n = unless_settled (outcome events n) (scan_or_link n (open_task events n) (link_is_open events n))
+open_job_of events n = open_job_by events n (outcome events n)
 
 -- the job of the earliest that has one, of so many builds from this number on
 abbrev pub earliest_from : List Event → ℕ → ℕ → Option Job

@@ -4,17 +4,17 @@ ghost use Rattle.std.specs.List.{list_any};
 ghost use Rattle.std.specs.Option.{is_some, option_copied};
 ghost use Rattle.std.specs.Vec.{vec_capacity};
 ghost use Rattle.esb_ask.specs.Table.{fits, kept};
-ghost use Rattle.esb_core.specs.Allowed.{has_claim, has_task, is_linker, is_scanned, is_settled, job_of, may_settle, names_job};
+ghost use Rattle.esb_core.specs.Allowed.{has_claim, has_task, is_closed, is_linker, is_part, is_scanned, is_settled, is_writer, job_of, may_fail, may_settle, names_job, write_if, writing_of};
 ghost use Rattle.esb_core.specs.Kept.{StaysBy};
 ghost use Rattle.esb_core.specs.Sizes.{has_too_many, is_overfull, opened};
-ghost use Rattle.esb_core.specs.Steps.{answered, ended_by, fresh, freed, is_claim, joined, link_claimed, released, task_claimed, tasked, told_record, unclaimed};
+ghost use Rattle.esb_core.specs.Steps.{answered, closed_by, ended_by, fresh, freed, is_claim, joined, link_claimed, released, task_claimed, tasked, told_record, unclaimed, write_claimed, written_by};
 
 use crate::answers::Answers;
 use crate::event::{Job, Told};
 use crate::opened::Opened;
 use crate::view::View;
-use esb_ask::{Answer, Outcome, Question, Table, Task};
-use esb_base::{Memory, Shared};
+use esb_ask::{Answer, Failures, OutFile, Outcome, Question, Table, Task};
+use esb_base::{Memory, PutFault, Shared, Text};
 use esb_flags::Options;
 use std::alloc::Global;
 use std::marker::Model;
@@ -24,13 +24,17 @@ use std::marker::Model;
 pub(crate) struct Build {
     key: u32,
     options: Shared<Options>,
-    waiting: Vec<u32>,
+    /// The id of each request that waits, and whether it is answered by the result.
+    waiting: Vec<(u32, bool)>,
     answers: Answers,
     tasks: Opened,
     claimed: usize,
     claims: Vec<(u32, Task)>,
     linker: Option<u32>,
     outcome: Option<Outcome>,
+    writer: Option<u32>,
+    failed: Option<Failures>,
+    closed: bool,
 }
 
 impl Model for Build {
@@ -49,6 +53,9 @@ impl Model for Build {
       claims = b.claims.items;
       linker = b.linker;
       outcome = b.outcome;
+      writer = b.writer;
+      failed = b.failed;
+      closed = b.closed;
     } };
 
     // There is room for the claim of each task that is open.
@@ -60,6 +67,22 @@ fn is_claim(claim: &(u32, Task), worker: u32, task: &Task) -> bool
     ensures { result ≡ is_claim worker task.now claim.now }
 {
     claim.0 == worker && claim.1.is(task)
+}
+
+/// Whether these are some of the paths of the files, in their order.
+fn is_part(failures: &[(Text, PutFault)], files: &[OutFile]) -> bool
+    ensures { result ≡ is_part failures.now files.now }
+{
+    let (mut rest, mut left) = (failures, files);
+    while let [file, more @ ..] = left {
+        if let [first, others @ ..] = rest {
+            if first.0 == file.path {
+                rest = others;
+            }
+        }
+        left = more;
+    }
+    rest.is_empty()
 }
 
 /// Whether a worker has a claim.
@@ -114,6 +137,9 @@ impl Build {
             claims,
             linker: None,
             outcome: None,
+            writer: None,
+            failed: None,
+            closed: false,
         })
     }
 
@@ -129,20 +155,20 @@ impl Build {
         &self.options
     }
 
-    /// The ids of the requests that wait for this build.
-    pub(crate) fn waiting(&self) -> &[u32]
+    /// The requests that wait for this build: each id, and whether it is answered by the result.
+    pub(crate) fn waiting(&self) -> &[(u32, bool)]
         ensures { result.now ≡ self.now.waiting }
     {
         &self.waiting
     }
 
     /// One more request waits for this build.
-    pub(crate) fn join(&mut self, id: u32) -> Result<(), Memory>
-        ensures ok { OnOk result (self.new ≡ joined self.old id) }
+    pub(crate) fn join(&mut self, id: u32, result_wanted: bool) -> Result<(), Memory>
+        ensures ok { OnOk result (self.new ≡ joined self.old id result_wanted) }
         ensures err { OnErr result (self.new ≡ self.old) }
         ensures stays { StaysBy 1 self.old self.new }
     {
-        self.waiting.push(id)?;
+        self.waiting.push((id, result_wanted))?;
         Ok(())
     }
 
@@ -164,12 +190,32 @@ impl Build {
         self.outcome.is_some()
     }
 
+    pub(crate) fn is_closed(&self) -> bool
+        ensures { result ≡ is_closed self.now }
+    {
+        self.closed
+    }
+
+    /// Whether the writing of this build's files is open.
+    fn is_to_write(&self) -> bool
+        ensures { (number : ℕ) (o : Outcome) → self.now.outcome ≡ Some o → writing_of number self.now o ≡ write_if number result }
+    {
+        matches!(&self.outcome, Some(Outcome::Files(_)))
+            && self.options.get().write
+            && self.writer.is_none()
+            && self.failed.is_none()
+    }
+
     /// The first open job of this build, whose number is told.
     pub(crate) fn job(&self, build: u32) -> Result<Option<Job>, Memory>
         ensures { IfOk result (λ job. job ≡ job_of build self.now) }
     {
         if self.outcome.is_some() {
-            return Ok(None);
+            return Ok(if self.is_to_write() {
+                Some(Job::Write { build })
+            } else {
+                None
+            });
         }
         match self.tasks.get(self.claimed) {
             Some(task) => Ok(Some(Job::Scan {
@@ -192,7 +238,10 @@ impl Build {
     pub(crate) fn has_job(&self) -> bool
         ensures { (number : ℕ) → result ≡ is_some (job_of number self.now) }
     {
-        !self.is_settled() && (self.claimed < self.tasks.len() || self.is_scanned())
+        if self.is_settled() {
+            return self.is_to_write();
+        }
+        self.claimed < self.tasks.len() || self.is_scanned()
     }
 
     /// Whether a job is the first open one of this build, whose number is told. It takes no memory.
@@ -200,7 +249,10 @@ impl Build {
         ensures { result ≡ names_job (job_of build self.now) job.now }
     {
         if self.outcome.is_some() {
-            return false;
+            return match job {
+                Job::Write { build: n } => self.is_to_write() && build == *n,
+                _ => false,
+            };
         }
         match (self.tasks.get(self.claimed), job) {
             (Some(task), Job::Scan { build: n, task: t }) => build == *n && task.is(t),
@@ -228,6 +280,29 @@ impl Build {
         }
     }
 
+    /// Whether a worker has claimed the writing.
+    pub(crate) fn is_writer(&self, worker: u32) -> bool
+        ensures { result ≡ is_writer self.now.writer worker }
+    {
+        match self.writer {
+            None => false,
+            Some(writer) => writer == worker,
+        }
+    }
+
+    /// Whether these can be the files that were not put.
+    pub(crate) fn may_fail(&self, failures: &Failures) -> bool
+        ensures { result ≡ may_fail self.now.outcome failures.now }
+    {
+        let Some(Outcome::Files(files)) = &self.outcome else {
+            return false;
+        };
+        match failures {
+            Failures::Paths(paths) => is_part(paths.get().as_slice(), files.get().as_slice()),
+            Failures::All => true,
+        }
+    }
+
     /// Whether a worker has any claim.
     pub(crate) fn has_claim(&self, worker: u32) -> bool
         ensures { result ≡ has_claim self.now worker }
@@ -252,16 +327,22 @@ impl Build {
         ensures key { IfOk result (λ view. view.key ≡ self.now.key) }
         ensures options { IfOk result (λ view. view.options ≡ self.now.options) }
         ensures outcome { IfOk result (λ view. view.outcome ≡ self.now.outcome) }
+        ensures failed { IfOk result (λ view. view.failed ≡ self.now.failed) }
     {
         let options = self.options.share()?;
         let outcome = match &self.outcome {
             None => None,
             Some(outcome) => Some(outcome.share()?),
         };
+        let failed = match &self.failed {
+            None => None,
+            Some(failed) => Some(failed.share()?),
+        };
         Ok(View {
             key: self.key,
             options,
             outcome,
+            failed,
         })
     }
 
@@ -350,7 +431,29 @@ impl Build {
         self.linker = freed(self.linker, worker);
     }
 
-    /// Ends the build. It takes no memory.
+    /// The writing goes to a worker. It takes no memory.
+    pub(crate) fn claim_write(&mut self, worker: u32)
+        ensures { self.new ≡ write_claimed self.old worker }
+    {
+        self.writer = Some(worker);
+    }
+
+    /// The files are put, but for these. It takes no memory.
+    pub(crate) fn write(&mut self, failures: Failures)
+        ensures { self.new ≡ written_by self.old failures }
+    {
+        self.failed = Some(failures);
+        self.writer = None;
+    }
+
+    /// No request waits any more. It takes no memory.
+    pub(crate) fn close(&mut self)
+        ensures { self.new ≡ closed_by self.old }
+    {
+        self.closed = true;
+    }
+
+    /// Settles the build. It takes no memory.
     pub(crate) fn end(&mut self, outcome: Outcome)
         ensures { self.new ≡ ended_by self.old outcome }
     {

@@ -1,7 +1,7 @@
 ghost use Rattle.std.specs.Prelude.{◌≡◌, IfOk};
 
 use crate::out::Out;
-use esb_ask::{Answer, Outcome, Product, Question, Task};
+use esb_ask::{Answer, Failures, Outcome, Product, Question, Task};
 use esb_base::{List, Memory};
 use esb_wire::Packet;
 
@@ -21,6 +21,8 @@ pub enum Job {
     Scan { build: u32, task: Task },
     /// The link of a build whose tasks are done.
     Link { build: u32 },
+    /// The writing of the files of a build.
+    Write { build: u32 },
 }
 
 /// The next work of a role.
@@ -30,7 +32,7 @@ pub enum Claimed {
     Job(Job),
     /// No job is open.
     Idle,
-    /// The input has ended and no build is active.
+    /// The input has ended and each build is closed.
     Closing,
 }
 
@@ -65,6 +67,12 @@ pub enum Event {
         worker: u32,
         build: u32,
         outcome: Outcome,
+    },
+    /// A worker has put the files of a build, but for those that failed.
+    Written {
+        worker: u32,
+        build: u32,
+        failures: Failures,
     },
     /// The first that is owed is sent.
     Pop,
@@ -101,6 +109,7 @@ impl Job {
                 task: task.share()?,
             }),
             Job::Link { build } => Ok(Job::Link { build: *build }),
+            Job::Write { build } => Ok(Job::Write { build: *build }),
         }
     }
 }

@@ -15,9 +15,9 @@ mod tables;
 mod view;
 
 pub use always::{
-    answers_stay, builds_stay, contexts_are_known, events_that_may_come, jobs_are_in_order,
-    limits_hold, machines_show_their_history, outcomes_stay, replies_are_one, settled_tables_stay,
-    told_is_the_history, work_is_claimed_once,
+    answers_stay, builds_close, builds_stay, contexts_are_known, events_that_may_come,
+    jobs_are_in_order, limits_hold, machines_show_their_history, outcomes_stay, replies_are_one,
+    settled_tables_stay, told_is_the_history, work_is_claimed_once,
 };
 pub use event::{Claimed, Event, Job, Journal, Role, Told};
 pub use machine::Machine;

@@ -89,7 +89,7 @@ impl Machine {
         self.tables.job(role)
     }
 
-    /// Whether the input has ended and no build is active. It takes no memory.
+    /// Whether the input has ended and each build is closed. It takes no memory.
     pub fn closing(&self) -> bool
         ensures { result ≡ is_closing self.now }
     {
@@ -125,6 +125,7 @@ impl Machine {
         ensures key { IfOk result (λ view. view.key ≡ (build_at self.now.builds build).key) }
         ensures options { IfOk result (λ view. view.options ≡ (build_at self.now.builds build).options) }
         ensures outcome { IfOk result (λ view. view.outcome ≡ (build_at self.now.builds build).outcome) }
+        ensures failed { IfOk result (λ view. view.failed ≡ (build_at self.now.builds build).failed) }
     {
         self.tables.view(build)
     }

@@ -18,6 +18,8 @@ pub enum Body {
     Error(Text),
     /// The outcome of a build.
     Result { build: u32 },
+    /// Nothing but that a build is closed, for whose close the request waited.
+    Closed { build: u32 },
 }
 
 impl Body {
@@ -29,6 +31,7 @@ impl Body {
             Body::Empty => Ok(Body::Empty),
             Body::Error(text) => Ok(Body::Error(text.share()?)),
             Body::Result { build } => Ok(Body::Result { build: *build }),
+            Body::Closed { build } => Ok(Body::Closed { build: *build }),
         }
     }
 }

@@ -59,16 +59,19 @@ impl Replies {
         self.promised -= 1;
     }
 
-    /// Owes the results of a build that were promised to the requests with these ids.
-    pub(crate) fn owe_results(&mut self, build: u32, ids: &[u32])
-        requires { length ids.now ≤ self.old.promised }
-        ensures { self.new ≡ record { owed = self.old.owed ++ results build ids.now; promised = self.old.promised - length ids.now } }
+    /// Owes what was promised to the requests that waited for a build: its result, or that it is closed.
+    pub(crate) fn owe_results(&mut self, build: u32, waiting: &[(u32, bool)])
+        requires { length waiting.now ≤ self.old.promised }
+        ensures { self.new ≡ record { owed = self.old.owed ++ results build waiting.now; promised = self.old.promised - length waiting.now } }
     {
-        for number in 0..ids.len() {
-            self.owe(Out::Reply {
-                id: ids[number],
-                body: Body::Result { build },
-            });
+        for number in 0..waiting.len() {
+            let (id, result_wanted) = waiting[number];
+            let body = if result_wanted {
+                Body::Result { build }
+            } else {
+                Body::Closed { build }
+            };
+            self.owe(Out::Reply { id, body });
         }
     }
 

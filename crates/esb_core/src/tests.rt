@@ -164,6 +164,7 @@ fn answers(alloc: Global, machine: &mut Machine) -> Result<bool, Memory> {
             key: 7,
             options: _,
             outcome: Some(Outcome::Memory),
+            failed: None,
         },
     ) = view
     else {
@@ -292,6 +293,7 @@ fn said_by(body: &Body) -> Option<Said> {
         Body::Error(_) => Some(Said::Error),
         Body::Result { build: 0 } => Some(Said::First),
         Body::Result { .. } => None,
+        Body::Closed { .. } => None,
     }
 }
 

@@ -1,4 +1,4 @@
-use esb_ask::Outcome;
+use esb_ask::{Failures, Outcome};
 use esb_base::Shared;
 use esb_flags::Options;
 
@@ -11,4 +11,6 @@ pub struct View {
     pub options: Shared<Options>,
     /// How it ended, once it is settled.
     pub outcome: Option<Outcome>,
+    /// Which of its files were not put, once the others were.
+    pub failed: Option<Failures>,
 }

@@ -10,6 +10,7 @@ use Rattle.esb_wire.specs.Spelling.{spelling, body, max_depth, IsPacket}
 use Rattle.esb_wire.specs.Size.{IsShaped, pair_spelled}
 use Rattle.esb_wire.proofs.Sizes.{fits_short, IsShaped-deeper, length-spelling-Str, length-spelling-Map}
 use Rattle.esb_reply.specs.Reply.{error_value, reply_packet, fits_frame, too_large, sent_packet, packet_for}
+use Rattle.esb_ask.specs.declared.outcome.Failures.{Failures}
 use Rattle.esb_ask.specs.declared.outcome.Outcome.{Outcome}
 use Rattle.esb_core.specs.declared.out.Body.TheVariants as bodies
 use Rattle.esb_core.specs.declared.out.Out.TheVariants as outs
@@ -70,7 +71,7 @@ error_is_packet id text small shaped short = is_packet id (error_value text) sma
 pub replacement_fits : (id : ℕ) → fits_frame (too_large id) ≡ true
 replacement_fits id = error_fits id (codes "Reply is too large") (lit≤ tt)
 
-pub short_errors_are_sent : (id : ℕ) (text : List ℕ) (write : Bool) (outcome : Option Outcome) → length text ≤ 1000 → packet_for (outs.Reply id (bodies.Error text)) write outcome ≡ reply_packet id (error_value text)
+pub short_errors_are_sent : (id : ℕ) (text : List ℕ) (write : Bool) (outcome : Option Outcome) (failed : Option Failures) → length text ≤ 1000 → packet_for (outs.Reply id (bodies.Error text)) write outcome failed ≡ reply_packet id (error_value text)
 unfolding packet_for
-short_errors_are_sent id text write outcome short =
+short_errors_are_sent id text write outcome failed short =
     ap (λ (b : Bool). cond b (reply_packet id (error_value text)) (too_large id)) (error_fits id text short)

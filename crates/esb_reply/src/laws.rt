@@ -1,6 +1,7 @@
 //! Laws of replies. Each function's contract is the law, and its body does nothing.
 
 ghost use Rattle.std.specs.Prelude.{◌≡◌, ◌≤◌, ℕ, Bool, true, List, Option, length};
+ghost use Rattle.esb_ask.specs.declared.outcome.Failures.{Failures};
 ghost use Rattle.esb_ask.specs.declared.outcome.Outcome.{Outcome};
 ghost use Rattle.esb_core.specs.declared.out.Body.TheVariants as bodies;
 ghost use Rattle.esb_core.specs.declared.out.Out.TheVariants as outs;
@@ -13,6 +14,6 @@ pub fn replacement_fits()
 
 /// An error whose text has at most 1,000 bytes is sent as it is.
 pub fn short_errors_are_sent()
-    ensures { (id : ℕ) (text : List ℕ) (write : Bool) (outcome : Option Outcome) → length text ≤ 1000
-        → packet_for (outs.Reply id (bodies.Error text)) write outcome ≡ reply_packet id (error_value text) }
+    ensures { (id : ℕ) (text : List ℕ) (write : Bool) (outcome : Option Outcome) (failed : Option Failures) → length text ≤ 1000
+        → packet_for (outs.Reply id (bodies.Error text)) write outcome failed ≡ reply_packet id (error_value text) }
 {}

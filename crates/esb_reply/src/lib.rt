@@ -1,6 +1,7 @@
 //! Replies: the packet of what is owed to the client.
 #![tactic(auto)]
 
+mod failed;
 mod laws;
 mod reply;
 mod shown;

@@ -1,11 +1,12 @@
 ghost use Rattle.std.specs.Prelude.{◌≡◌, ◌<◌, ◌^◌, [], ◌∷◌, IfOk, IfSome, IsSome};
 ghost use Rattle.std.specs.Option.{option_copied};
-ghost use Rattle.esb_reply.specs.Reply.{placeless, result_value, outcome_value, reply_value, reply_packet, sent_packet, packet_for, id_of, write_of, outcome_of, BodyHasView, HasView};
+ghost use Rattle.esb_reply.specs.Reply.{placeless, result_value, outcome_value, failed_messages, shown_files, reply_value, reply_packet, sent_packet, packet_for, id_of, write_of, outcome_of, failed_of, BodyHasView, HasView};
 ghost use Rattle.esb_wire.specs.Spelling.{IsPacket};
 ghost use Rattle.esb_wire.specs.Size.{IsShaped};
 
+use crate::failed::{failed_messages, placeless};
 use crate::shown::{error_value, file_values, message_values, result_value};
-use esb_ask::{Message, Outcome};
+use esb_ask::{Failures, OutFile, Outcome};
 use esb_base::{List, Memory, Text};
 use esb_core::{Body, Out, View};
 use esb_wire::{Packet, Value};
@@ -19,26 +20,38 @@ fn lone_message(alloc: Global, text: &str) -> Result<Value, Memory>
     ensures value { IfOk result (λ value. value ≡ result_value (placeless text.now ∷ []) []) }
     ensures shaped { IfOk result (IsShaped 4) }
 {
-    let message = Message {
-        text: Text::of(alloc, text)?,
-        file: Text::of(alloc, "")?,
-        line: 0,
-        column: 0,
-        length: 0,
-    };
+    let message = placeless(alloc, text)?;
     let errors = message_values(alloc, &[message])?;
     result_value(alloc, errors, List::new(alloc))
 }
 
-fn outcome_value(alloc: Global, outcome: &Outcome, write: bool) -> Result<Value, Memory>
-    ensures value { IfOk result (λ value. value ≡ outcome_value write outcome.now) }
+/// A result with files, and with what is said of those that were not put.
+fn files_value(
+    alloc: Global,
+    files: &[OutFile],
+    failed: Option<&Failures>,
+    write: bool,
+) -> Result<Value, Memory>
+    ensures value { IfOk result (λ value. value ≡ result_value (failed_messages files.now (option_copied failed.entry)) (shown_files write files.now)) }
+    ensures shaped { IfOk result (IsShaped 4) }
+{
+    let messages = failed_messages(alloc, files, failed)?;
+    let errors = message_values(alloc, messages.as_slice())?;
+    let shown = file_values(alloc, files, write)?;
+    result_value(alloc, errors, shown)
+}
+
+fn outcome_value(
+    alloc: Global,
+    outcome: &Outcome,
+    failed: Option<&Failures>,
+    write: bool,
+) -> Result<Value, Memory>
+    ensures value { IfOk result (λ value. value ≡ outcome_value write (option_copied failed.entry) outcome.now) }
     ensures shaped { IfOk result (IsShaped 4) }
 {
     match outcome {
-        Outcome::Files(files) => {
-            let files = file_values(alloc, files.get().as_slice(), write)?;
-            result_value(alloc, List::new(alloc), files)
-        }
+        Outcome::Files(files) => files_value(alloc, files.get().as_slice(), failed, write),
         Outcome::Errors(messages) => {
             let errors = message_values(alloc, messages.get().as_slice())?;
             result_value(alloc, errors, List::new(alloc))
@@ -50,7 +63,7 @@ fn outcome_value(alloc: Global, outcome: &Outcome, write: bool) -> Result<Value,
 
 fn view_value(alloc: Global, view: Option<&View>) -> Result<Value, Memory>
     requires { IsSome (outcome_of (option_copied view)) }
-    ensures value { IfOk result (λ value. IfSome (outcome_of (option_copied view.entry)) (λ outcome. value ≡ outcome_value (write_of (option_copied view.entry)) outcome)) }
+    ensures value { IfOk result (λ value. IfSome (outcome_of (option_copied view.entry)) (λ outcome. value ≡ outcome_value (write_of (option_copied view.entry)) (failed_of (option_copied view.entry)) outcome)) }
     ensures shaped { IfOk result (IsShaped 4) }
 {
     match view {
@@ -58,20 +71,21 @@ fn view_value(alloc: Global, view: Option<&View>) -> Result<Value, Memory>
             View {
                 options,
                 outcome: Some(outcome),
+                failed,
                 ..
             },
-        ) => outcome_value(alloc, outcome, options.get().write),
+        ) => outcome_value(alloc, outcome, failed.as_ref(), options.get().write),
         _ => unreachable!(),
     }
 }
 
 fn body_value(alloc: Global, body: &Body, view: Option<&View>) -> Result<Value, Memory>
     requires { BodyHasView body.now (option_copied view) }
-    ensures value { IfOk result (λ value. value ≡ reply_value body.now (write_of (option_copied view.entry)) (outcome_of (option_copied view.entry))) }
+    ensures value { IfOk result (λ value. value ≡ reply_value body.now (write_of (option_copied view.entry)) (outcome_of (option_copied view.entry)) (failed_of (option_copied view.entry))) }
     ensures shaped { IfOk result (IsShaped 4) }
 {
     match body {
-        Body::Empty => Ok(Value::Map(List::new(alloc))),
+        Body::Empty | Body::Closed { .. } => Ok(Value::Map(List::new(alloc))),
         Body::Error(text) => error_value(alloc, text),
         Body::Result { .. } => view_value(alloc, view),
     }
@@ -109,7 +123,7 @@ pub fn packet_of(alloc: Global, out: &Out, view: Option<&View>) -> Result<Packet
     requires id { id_of out.now < 2 ^ 31 }
     requires view { HasView out.now (option_copied view) }
     ensures packet { IfOk result (λ packet. packet
-        ≡ packet_for out.now (write_of (option_copied view.entry)) (outcome_of (option_copied view.entry))) }
+        ≡ packet_for out.now (write_of (option_copied view.entry)) (outcome_of (option_copied view.entry)) (failed_of (option_copied view.entry))) }
     ensures spelled { IfOk result IsPacket }
 {
     let Out::Reply { id, body } = out;

@@ -70,6 +70,7 @@ fn result_packet(alloc: Global, outcome: Outcome, write: bool) -> Result<Packet,
         key: 1,
         options: options(alloc, write)?,
         outcome: Some(outcome),
+        failed: None,
     };
     let out = Out::Reply {
         id: 3,

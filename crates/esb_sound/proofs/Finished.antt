@@ -1,5 +1,5 @@
 -- Each task of a build that isn't settled is open, or claimed, or has its product.
-use Rattle.std.proofs.Common.{◌≡◌, ℕ, ◌<◌, ◌≤◌, ◌⊎◌, inl, inr, Bool, true, not, List, [], ◌∷◌, ◌++◌, length, Option, None, Some, IsSome, refl, sym, ap, subst, ◌∙◌, arith, nat_eq, slice_get, slice_set, false}
+use Rattle.std.proofs.Common.{◌≡◌, ℕ, ◌<◌, ◌≤◌, ◌⊎◌, inl, inr, Bool, true, not, List, [], ◌∷◌, ◌++◌, length, Option, None, Some, IsSome, refl, sym, ap, subst, ◌∙◌, arith, nat_eq, slice_get, slice_set, false, length-set}
 use Rattle.std.specs.Prelude.{filter, is_none}
 use Rattle.std.specs.List.{list_any}
 use Rattle.std.proofs.lemmas.Option.{slice_get_within}
@@ -19,10 +19,10 @@ use Rattle.esb_ask.specs.Tasks.{same_task}
 use Rattle.esb_ask.proofs.Tables.{kept_extends}
 use Rattle.esb_core.specs.declared.event.Job.TheVariants as job
 use Rattle.esb_core.specs.State.{Building, State, build_at, no_build}
-use Rattle.esb_core.specs.Moves.{Move, assign, close, closed, added_or, opens, opened_unless}
+use Rattle.esb_core.specs.Moves.{Move, added_or, opens, opened_unless, ended as ended_moves}
 use Rattle.esb_core.specs.Steps
 use Rattle.esb_core.specs.Sizes.{named, opened, with_task, is_overfull, has_too_many, too_large}
-use Rattle.esb_core.specs.Steps.{is_claim, task_claimed, link_claimed, all_moved, joined, answered, tasked, ended_by, standing, released}
+use Rattle.esb_core.specs.Steps.{is_claim, task_claimed, link_claimed, all_moved, joined, answered, tasked, ended_by, closed_by, standing, released}
 use Rattle.esb_core.specs.Allowed.{job_of}
 use Rattle.esb_core.proofs.Claims.{job-fits, both_parts}
 use Rattle.esb_core.proofs.Each.{each-all_moved}
@@ -75,11 +75,14 @@ task-claimed b worker t first h = record {
         let same : t ≡ u = cc in
         inl (subst (λ (v : Task). stands (b.claims ++ (worker, t) ∷ []) v ≡ true) same (stands-push b.claims worker t))
 
+pub write-claimed : (b : Building) (worker : ℕ) → IsOnWay b → IsOnWay (Steps.write_claimed b worker)
+write-claimed b worker h = record { entries = h.entries; within = h.within; taken = h.taken }
+
 pub link-claimed : (b : Building) (worker : ℕ) → IsOnWay b → IsOnWay (link_claimed b worker)
 link-claimed b worker h = record { entries = h.entries; within = h.within; taken = h.taken }
 
-joined-on_way : (b : Building) (id : ℕ) → OnWay b → OnWay (joined b id)
-joined-on_way b id h none = let on = h none in record { entries = on.entries; within = on.within; taken = on.taken }
+joined-on_way : (b : Building) (id : ℕ) (result : Bool) → OnWay b → OnWay (joined b id result)
+joined-on_way b id result h none = let on = h none in record { entries = on.entries; within = on.within; taken = on.taken }
 
 kept-on_way : (b : Building) (q : Question) (a : Answer) → IsOnWay b → IsOnWay (answered b q a)
 kept-on_way b q a h = record { entries = h.entries; within = h.within; taken = λ i t lt at. by t (h.taken i t lt at) }
@@ -149,7 +152,7 @@ deliver-leaves s n t None lt is = by (has_too_many (opened (build_at s.builds n)
     b : Building
     b = build_at s.builds n
 
-    ends : (c : Building) → c ≡ ended_by b too_large → Leaves b c t
+    ends : (c : Building) → c ≡ closed_by (ended_by b too_large) → Leaves b c t
     ends c same = record {
       same_options = ap (λ (d : Building). d.options) same;
       same_table = ap (λ (d : Building). d.table) same;
@@ -159,9 +162,17 @@ deliver-leaves s n t None lt is = by (has_too_many (opened (build_at s.builds n)
     there : build_at (slice_set s.builds n (ended_by b too_large)) n ≡ ended_by b too_large
     there = get_or-set_same s.builds n (ended_by b too_large) no_build lt
 
-    closes : (stays : Bool) → (let u : State = all_moved s (closed b.key stays n too_large) in Leaves b (build_at u.builds n) t)
-    closes true = ends _ there
-    closes false = ends _ there
+    bs : List Building
+    bs = slice_set s.builds n (ended_by b too_large)
+
+    shut : build_at (slice_set bs n (closed_by (build_at bs n))) n ≡ closed_by (ended_by b too_large)
+    shut =
+        let long = length-set s.builds n (ended_by b too_large) in
+        get_or-set_same bs n (closed_by (build_at bs n)) no_build (omega (arith, lt, long)) ∙ ap (λ (c : Building). closed_by c) there
+
+    closes : (stays : Bool) → (let u : State = all_moved s (ended_moves b.key stays n too_large) in Leaves b (build_at u.builds n) t)
+    closes true = ends _ shut
+    closes false = ends _ shut
 
     adds : (v : Option Task) → v ≡ t → (let u : State = all_moved s (opens n v) in Leaves b (build_at u.builds n) t)
     adds None same = record { same_options = refl; same_table = refl; leads = λ none u names. absurd (let e : None ≡ Some u = same ∙ names in let f : ⊥ = cc in f) }
@@ -174,7 +185,7 @@ deliver-leaves s n t None lt is = by (has_too_many (opened (build_at s.builds n)
         }
 
     by : (large : Bool) → (let u : State = all_moved s (added_or (standing s n) n large (opens n t)) in Leaves b (build_at u.builds n) t)
-    by true = closes b.options.context
+    by true = closes (standing s n).stays
     by false = adds t refl
 
 pub delivered-on_way : (s : State) (n worker : ℕ) (t : Task) (p : Product) → n < length s.builds → run (build_at s.builds n).options (build_at s.builds n).table t ≡ run_of.Done p
@@ -192,8 +203,9 @@ released-on_way b worker h none = some_is_not b.outcome h none
 -- moves leave each build on its way
 pub moves-on_way : (s : State) (ms : List Move) → ((n : ℕ) → OnWay (build_at s.builds n)) → (n : ℕ) → OnWay (build_at (all_moved s ms).builds n)
 moves-on_way s ms h =
-    each-all_moved (λ k b. OnWay b) (λ k key options own. fresh-on_way key options) (λ k b id own. joined-on_way b id own) (λ k b q a own none. kept-on_way b q a (own none)) (λ k b t own none. tasked-on_way b t (own none))
-    (λ k b o own none. settled_is_not o none) s ms h
+    each-all_moved (λ k b. OnWay b) (λ k key options own. fresh-on_way key options) (λ k b id result own. joined-on_way b id result own) (λ k b q a own none. kept-on_way b q a (own none)) (λ k b t own none. tasked-on_way b t (own none))
+    (λ k b o own none. settled_is_not o none) (λ k b f own none. let on = own none in record { entries = on.entries; within = on.within; taken = on.taken })
+    (λ k b own none. let on = own none in record { entries = on.entries; within = on.within; taken = on.taken }) s ms h
 
 -- ---- the link
 

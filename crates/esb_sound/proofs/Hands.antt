@@ -7,6 +7,7 @@ use Rattle.esb_base.specs.World.{Folder}
 use Rattle.esb_ask.specs.declared.task.Task.{Task}
 use Rattle.esb_ask.specs.declared.product.Product.{Product}
 use Rattle.esb_ask.specs.declared.outcome.Outcome.{Outcome}
+use Rattle.esb_ask.specs.declared.outcome.Outcome.TheVariants as ending
 use Rattle.esb_ask.specs.Tasks.{product_fits}
 use Rattle.esb_ask.proofs.SameTask.{same_task-refl}
 use Rattle.esb_core.specs.declared.event.Job.{Job}
@@ -21,7 +22,7 @@ use Rattle.esb_core.specs.Steps
 use Rattle.esb_core.specs.Steps.{after, all_moved, moves, fresh, joined, answered, tasked, is_claim, task_claimed, link_claimed, released}
 use Rattle.esb_core.specs.Allowed.{allowed, has_begun, first_from, first_job, job_by, job_of, job_unless, link_if, is_scanned, names_job, or_next, has_task, may_settle}
 use Rattle.esb_core.specs.History.{builds, is_legal, is_legal_from, outcome, replay, replay_from}
-use Rattle.esb_core.proofs.Claims.{claim-is, scan-is, link-is, both_parts}
+use Rattle.esb_core.proofs.Claims.{claim-is, scan-is, link-is, write-is, both_parts}
 use Rattle.esb_core.proofs.Each.{each-all_moved}
 use Rattle.esb_core.proofs.Readings.{at-set, begun_of}
 use Rattle.esb_core.proofs.Laws.{IsRead, all_moved-longer, read-legal, reads-legal, reads-step}
@@ -36,10 +37,12 @@ abbrev claims_of : ℕ → Option Job → List (ℕ × Task)
 claims_of n None = []
 claims_of n (Some (job.Scan m t)) = cond (nat_eq m n) ((0, t) ∷ []) []
 claims_of n (Some (job.Link m)) = []
+claims_of n (Some (job.Write m)) = []
 
 abbrev linker_of : ℕ → Option Job → Option ℕ
 linker_of n None = None
 linker_of n (Some (job.Scan m t)) = None
+linker_of n (Some (job.Write m)) = None
 linker_of n (Some (job.Link m)) = cond (nat_eq m n) (Some 0) None
 
 record HasThose (hand : Option Job) (n : ℕ) (b : Building) : Type 0 where
@@ -75,9 +78,11 @@ set-others P bs n b lt others own m = subst (λ (c : Building). P m c) (sym (at-
 no_claims : (j : Job) (k : ℕ) → nat_eq (build_of j) k ≡ false → claims_of k (Some j) ≡ []
 no_claims (job.Scan n t) k e = ap (λ (c : Bool). cond c ((0, t) ∷ []) []) e
 no_claims (job.Link n) k e = refl
+no_claims (job.Write n) k e = refl
 
 no_linker : (j : Job) (k : ℕ) → nat_eq (build_of j) k ≡ false → linker_of k (Some j) ≡ None
 no_linker (job.Scan n t) k e = refl
+no_linker (job.Write n) k e = refl
 no_linker (job.Link n) k e = ap (λ (c : Bool). cond c (Some 0) None) e
 
 taken-up : (j : Job) (k : ℕ) (b : Building) → nat_eq (build_of j) k ≡ false → Has None k b → Has (Some j) k b
@@ -118,8 +123,9 @@ delivered-has n b t h none = record {
 -- moves change nothing of what is claimed
 moves-have : (hand : Option Job) (s : State) (ms : List Move) → AllHave hand s → AllHave hand (all_moved s ms)
 moves-have hand s ms h =
-    each-all_moved (Has hand) (λ k key options own. alike hand k no_build (fresh key options) refl refl refl own) (λ k b id own. alike hand k b (joined b id) refl refl refl own)
-    (λ k b q a own. alike hand k b (answered b q a) refl refl refl own) (λ k b t own. alike hand k b (tasked b t) refl refl refl own) (λ k b o own none. settled_is_not o none) s ms h
+    each-all_moved (Has hand) (λ k key options own. alike hand k no_build (fresh key options) refl refl refl own) (λ k b id result own. alike hand k b (joined b id result) refl refl refl own)
+    (λ k b q a own. alike hand k b (answered b q a) refl refl refl own) (λ k b t own. alike hand k b (tasked b t) refl refl refl own) (λ k b o own none. settled_is_not o none) (λ k b f own. alike hand k b (Steps.written_by b f) refl refl refl own)
+    (λ k b own. alike hand k b (Steps.closed_by b) refl refl refl own) s ms h
 
 -- ---- steps
 
@@ -130,6 +136,14 @@ claims s (job.Scan n t) may h =
 claims s (job.Link n) may h =
     set-others (λ k c. Has (Some (job.Link n)) k c) s.builds n (link_claimed (build_at s.builds n) 0) (link-is s.builds n (claim-is s 0 (job.Link n) may)).begun
     (λ k apart. taken-up (job.Link n) k (build_at s.builds k) apart (h k)) (link-claimed n (build_at s.builds n) (h n))
+claims s (job.Write n) may h =
+    let ready = write-is s.builds n (claim-is s 0 (job.Write n) may) in
+    set-others (λ k c. Has (Some (job.Write n)) k c) s.builds n (Steps.write_claimed (build_at s.builds n) 0) ready.begun
+    (λ k apart. taken-up (job.Write n) k (build_at s.builds k) apart (h k)) (λ none. settled_is_not (ending.Files ready.writes.files) (sym ready.writes.outcome ∙ none))
+
+-- the writing of files makes no claim
+written : (s : State) (n : ℕ) → AllHave (Some (job.Write n)) s → AllHave None s
+written s n h k none = let has = h k none in record { claims = has.claims; linker = has.linker }
 
 delivers : (s : State) (n : ℕ) (t : Task) → n < length s.builds → AllHave (Some (job.Scan n t)) s → AllHave None (Steps.changed s n (Steps.unclaimed (build_at s.builds n) 0 t))
 delivers s n t lt h =
@@ -178,6 +192,8 @@ step s before (event.Deliver worker n t p) reads may handles h =
 
     longer : length s.builds ≤ length u.builds
     longer = all_moved-longer s (moves s (event.Deliver worker n t p))
+step s before (event.Written worker n f) reads may handles h =
+    moves-have None s (moves s (event.Written worker n f)) (written s n (subst (λ (hand : Option Job). AllHave hand s) (doing-hand before (job.Write n) handles.1) h))
 step s before (event.Settle worker n o) reads may handles h = by handles.1
   where
     u : State

@@ -26,7 +26,7 @@ use Rattle.esb_scan.specs.Complete.{IsComplete}
 use Rattle.esb_sound.specs.Each.{Each-from}
 use Rattle.esb_sound.specs.Sound.{Sound, IsSound}
 use Rattle.esb_sound.proofs.Builds.{settle-settles}
-use Rattle.esb_sound.proofs.Finished.{OnWay, task-claimed, link-claimed, delivered-on_way, released-on_way, moves-on_way, link-complete}
+use Rattle.esb_sound.proofs.Finished.{OnWay, task-claimed, link-claimed, write-claimed, delivered-on_way, released-on_way, moves-on_way, link-complete}
 
 -- each build is on its way
 abbrev AllOnWay : State → Type 0
@@ -57,6 +57,8 @@ claims s (role.Worker worker) (job.Scan n t) may h =
     changes s n (task_claimed (build_at s.builds n) worker t) (λ none. task-claimed (build_at s.builds n) worker t open_task.first (h n none)) h
 claims s (role.Worker worker) (job.Link n) may h =
     changes s n (link_claimed (build_at s.builds n) worker) (λ none. link-claimed (build_at s.builds n) worker (h n none)) h
+claims s (role.Worker worker) (job.Write n) may h =
+    changes s n (Steps.write_claimed (build_at s.builds n) worker) (λ none. write-claimed (build_at s.builds n) worker (h n none)) h
 claims s (role.Door door) j may h = h
 
 -- each step of an event that is allowed and sound
@@ -74,6 +76,7 @@ on_way-step s es (event.Settle worker n o) r h may sound =
     let t : State = all_moved s (moves s (event.Settle worker n o)) in
     let lt = ltb-true n (length s.builds) (both_parts (has_begun s n) (may_settle (build_at s.builds n) worker o) may).0 in
     changes t n (released (build_at t.builds n) worker) (released-on_way (build_at t.builds n) worker (settle-settles s worker n o lt)) (moves-on_way s (moves s (event.Settle worker n o)) h)
+on_way-step s es (event.Written worker n f) r h may sound = moves-on_way s (moves s (event.Written worker n f)) h
 on_way-step s es event.Pop r h may sound = h
 
 on_way-from : (s : State) (es more : List Event) → IsRead s es → AllOnWay s → is_legal_from s more ≡ true → Each-from IsSound es more → AllOnWay (replay_from s more)

@@ -124,6 +124,7 @@ module _ (events : List Event) (n : ℕ) (o : Outcome) (legal : is_legal events 
   ends (event.Arrive packet) at gives = inr (inl (arrives (verdict h.before packet) packet.request gives))
   ends event.EndOfInput at gives = none-is o gives
   ends (event.Claim role job) at gives = none-is o gives
+  ends (event.Written worker m f) at gives = none-is o gives
   ends event.Pop at gives = none-is o gives
 
   pub ends-right : EndsRight events n o
@@ -152,4 +153,5 @@ overgrown-ends events n g = earliest-settled events n too_large (record {
     gives (event.Arrive packet) e = absurd (false≢true e)
     gives event.EndOfInput e = absurd (false≢true e)
     gives (event.Claim role job) e = absurd (false≢true e)
+    gives (event.Written worker m f) e = absurd (false≢true e)
     gives event.Pop e = absurd (false≢true e)

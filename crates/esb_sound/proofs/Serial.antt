@@ -68,6 +68,7 @@ arrives-here packets before es (events.Claim role job) is = tt
 arrives-here packets before es (events.Record worker n question answer) is = tt
 arrives-here packets before es (events.Deliver worker n task product) is = tt
 arrives-here packets before es (events.Settle worker n outcome) is = tt
+arrives-here packets before es (events.Written worker n failures) is = tt
 arrives-here packets before es events.Pop is = tt
 
 arrivals-append : (es fs : List Event) → arrivals (es ++ fs) ≡ arrivals es ++ arrivals fs

@@ -10,6 +10,7 @@ use Rattle.esb_core.specs.State.{Building, build_at}
 abbrev pub IsReadyBody : List Building → Body → Type 0
 IsReadyBody builds bodies.Empty = Unit {0}
 IsReadyBody builds (bodies.Error text) = Unit {0}
+IsReadyBody builds (bodies.Closed n) = Unit {0}
 IsReadyBody builds (bodies.Result n) = IsSome (build_at builds n).outcome
 
 abbrev pub IsReady : List Building → Out → Type 0

@@ -9,14 +9,15 @@ use Rattle.esb_core.specs.declared.out.Body.{Body}
 use Rattle.esb_core.specs.declared.out.Body.TheVariants as bodies
 use Rattle.esb_core.specs.declared.event.Event.{Event}
 use Rattle.esb_core.specs.declared.event.Event.TheVariants as events
-use Rattle.esb_core.specs.History.{build, outcome, owed, gathered, arrived}
+use Rattle.esb_core.specs.History.{build, failed, outcome, owed, gathered, arrived}
 use Rattle.esb_reply.specs.Reply.{packet_for}
 
--- the packet of what is owed after these events: a result shows how its build ended
+-- the packet of what is owed after these events: a result shows how its build ended, and which of its files were not put
 abbrev pub packet_of_body : List Event → ℕ → Body → Packet
-packet_of_body before id (bodies.Result n) = packet_for (outs.Reply id (bodies.Result n)) (build before n).options.write (outcome before n)
-packet_of_body before id bodies.Empty = packet_for (outs.Reply id bodies.Empty) false None
-packet_of_body before id (bodies.Error text) = packet_for (outs.Reply id (bodies.Error text)) false None
+packet_of_body before id (bodies.Result n) = packet_for (outs.Reply id (bodies.Result n)) (build before n).options.write (outcome before n) (failed before n)
+packet_of_body before id bodies.Empty = packet_for (outs.Reply id bodies.Empty) false None None
+packet_of_body before id (bodies.Error text) = packet_for (outs.Reply id (bodies.Error text)) false None None
+packet_of_body before id (bodies.Closed n) = packet_for (outs.Reply id (bodies.Closed n)) false None None
 
 abbrev pub packet_after : List Event → Out → Packet
 packet_after before (outs.Reply id body) = packet_of_body before id body

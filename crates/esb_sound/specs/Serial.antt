@@ -5,6 +5,8 @@ use Rattle.esb_wire.specs.declared.value.Packet.{Packet}
 use Rattle.esb_ask.specs.declared.task.Task.{Task}
 use Rattle.esb_ask.specs.declared.message.Message.{Message}
 use Rattle.esb_ask.specs.declared.outcome.OutFile.{OutFile}
+use Rattle.esb_ask.specs.declared.outcome.Failures.{Failures}
+use Rattle.esb_ask.specs.declared.outcome.Failures.TheVariants as failures
 use Rattle.esb_ask.specs.declared.outcome.Outcome.{Outcome}
 use Rattle.esb_ask.specs.declared.outcome.Outcome.TheVariants as outcomes
 use Rattle.esb_core.specs.declared.out.Out.{Out}
@@ -29,6 +31,7 @@ abbrev pub doing_after : Option Job → Event → Option Job
 doing_after job (events.Claim role claimed) = Some claimed
 doing_after job (events.Deliver worker n task product) = None
 doing_after job (events.Settle worker n outcome) = None
+doing_after job (events.Written worker n failures) = None
 doing_after job (events.Record worker n question answer) = job
 doing_after job (events.Arrive packet) = job
 doing_after job events.EndOfInput = job
@@ -42,16 +45,19 @@ in_hand list = fold doing_after None list
 abbrev pub build_of : Job → ℕ
 build_of (jobs.Scan n task) = n
 build_of (jobs.Link n) = n
+build_of (jobs.Write n) = n
 
 abbrev pub unless_over : Option Outcome → Job → Option Job
 unless_over None job = Some job
-unless_over (Some outcome) job = None
+unless_over (Some outcome) (jobs.Scan n task) = None
+unless_over (Some outcome) (jobs.Link n) = None
+unless_over (Some outcome) (jobs.Write n) = Some (jobs.Write n)
 
 abbrev pub going_on : List Event → Option Job → Option Job
 going_on list None = None
 going_on list (Some job) = unless_over (outcome list (build_of job)) job
 
--- the job that was claimed and is not yet done. It is over too once its build is settled.
+-- the job that was claimed and is not yet done. A scan and a link are over too once their build is settled.
 abbrev pub doing : List Event → Option Job
 doing list = going_on list (in_hand list)
 
@@ -71,6 +77,7 @@ linked (Err messages) = outcomes.Errors messages
 abbrev pub work_step : List Folder → List Event → Job → Option Event
 work_step world before (jobs.Scan n task) = scan_step world n task (run (build before n).options (table before n) task)
 work_step world before (jobs.Link n) = Some (events.Settle 0 n (linked (serial_link (build before n).options (table before n))))
+work_step world before (jobs.Write n) = Some (events.Written 0 n (failures.Paths []))
 
 -- the next packet, or the end of the input
 abbrev pub input_step : Option Packet → Event
@@ -120,10 +127,17 @@ abbrev pub is_refusal : Outcome → Bool
 is_refusal outcomes.Memory = true
 is_refusal outcome = false
 
--- a fault of the host, or a build that was settled for want of memory
+-- whether a file was not put
+abbrev pub has_failed : Failures → Bool
+has_failed failures.All = true
+has_failed (failures.Paths []) = false
+has_failed (failures.Paths (failure ∷ more)) = true
+
+-- a fault of the host, a build that was settled for want of memory, or a file that was not put
 abbrev pub is_lapse : Event → Bool
 is_lapse (events.Record worker n question answer) = is_fault answer
 is_lapse (events.Settle worker n outcome) = is_refusal outcome
+is_lapse (events.Written worker n f) = has_failed f
 is_lapse e = false
 
 abbrev pub lapses : List Event → ℕ
@@ -141,6 +155,7 @@ abbrev pub Handles : List Event → Event → Type 0
 Handles before (events.Claim role job) = (role ≡ roles.Worker 0) × (doing before ≡ None)
 Handles before (events.Deliver worker n task product) = (worker ≡ 0) × (doing before ≡ Some (jobs.Scan n task))
 Handles before (events.Settle worker n outcome) = (worker ≡ 0) × ((doing before ≡ Some (jobs.Link n)) ⊎ ((task : Task) × (doing before ≡ Some (jobs.Scan n task))))
+Handles before (events.Written worker n failures) = (worker ≡ 0) × (doing before ≡ Some (jobs.Write n))
 Handles before (events.Arrive packet) = Unit {0}
 Handles before events.EndOfInput = Unit {0}
 Handles before (events.Record worker n question answer) = Unit {0}
@@ -157,7 +172,13 @@ InTurn tells world list = Each (IsInTurn tells world) list
 
 -- ---- refusals
 
--- a build that was settled for want of memory
+-- whether memory was refused for the list of the files that were not put
+abbrev pub is_unlisted : Failures → Bool
+is_unlisted failures.All = true
+is_unlisted (failures.Paths paths) = false
+
+-- a build that was settled for want of memory, or whose files were not listed for want of it
 abbrev pub is_refused : Event → Bool
 is_refused (events.Settle worker n outcome) = is_refusal outcome
+is_refused (events.Written worker n f) = is_unlisted f
 is_refused e = false

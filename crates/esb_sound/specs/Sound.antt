@@ -39,6 +39,7 @@ IsSound before (events.Deliver worker n task product) = run (build before n).opt
 IsSound before (events.Settle worker n outcome) = IsLinked (build before n).options (table before n) outcome
 IsSound before (events.Arrive packet) = Unit {0}
 IsSound before events.EndOfInput = Unit {0}
+IsSound before (events.Written worker n failures) = Unit {0}
 IsSound before (events.Claim role job) = Unit {0}
 IsSound before events.Pop = Unit {0}
 

@@ -37,6 +37,7 @@ abbrev pub IsTold : List Folder → Event → Type 0
 IsTold world (events.Record worker n question answer) = (answer ≡ told world n question) ⊎ (answer ≡ answers.Fault)
 IsTold world (events.Arrive packet) = Unit {0}
 IsTold world events.EndOfInput = Unit {0}
+IsTold world (events.Written worker n failures) = Unit {0}
 IsTold world (events.Claim role job) = Unit {0}
 IsTold world (events.Deliver worker n task product) = Unit {0}
 IsTold world (events.Settle worker n outcome) = Unit {0}

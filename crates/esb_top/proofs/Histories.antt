@@ -6,7 +6,7 @@ use Rattle.esb_base.specs.World.{Folder}
 use Rattle.esb_base.specs.Faults.{Rose}
 use Rattle.esb_core.specs.declared.event.Event.{Event}
 use Rattle.esb_core.specs.State.{State, start}
-use Rattle.esb_core.specs.Moves.{Move, make, remove, begin, join, owe, keep, assign, close, take}
+use Rattle.esb_core.specs.Moves.{Move, make, remove, begin, join, retire, owe, keep, assign, settle, write, close, take}
 use Rattle.esb_core.specs.Steps.{after, moved, all_moved}
 use Rattle.esb_core.specs.History.{arrived, replay}
 use Rattle.esb_core.proofs.Moving.{gathered-push}
@@ -54,11 +54,14 @@ moved-ended : (s : State) (m : Move) → (moved s m).ended ≡ s.ended
 moved-ended s (make key options) = refl
 moved-ended s (remove key) = refl
 moved-ended s (begin n key options) = refl
-moved-ended s (join n id) = refl
+moved-ended s (join n id result) = refl
+moved-ended s (retire key) = refl
 moved-ended s (owe o) = refl
 moved-ended s (keep n q a) = refl
 moved-ended s (assign n t) = refl
-moved-ended s (close key n o) = refl
+moved-ended s (settle n o) = refl
+moved-ended s (write n f) = refl
+moved-ended s (close key n) = refl
 moved-ended s take = refl
 
 -- no move ends the input

@@ -27,8 +27,10 @@ use Rattle.esb_scan.specs.declared.run.Run.TheVariants as runs
 use Rattle.esb_scan.specs.Run.{run}
 use Rattle.esb_link.specs.SerialLink.{serial_link}
 use Rattle.esb_sound.specs.Sent.{arrivals}
-use Rattle.esb_sound.specs.Serial.{InTurn, IsInTurn, build_of, claim_or, doing, doing_after, in_hand, input_step, is_refusal, linked, next, pop_or, scan_step, step_by}
+use Rattle.esb_sound.specs.Serial.{InTurn, IsInTurn, build_of, claim_or, doing, doing_after, in_hand, input_step, is_refusal, has_failed, linked, next, pop_or, scan_step, step_by, unless_over}
 use Rattle.esb_sound.specs.Sound.{IsLinked}
+use Rattle.esb_ask.specs.declared.outcome.Failures.{Failures}
+use Rattle.esb_ask.specs.declared.outcome.Failures.TheVariants as failures
 use Rattle.esb_sound.proofs.Doing.{ends, given-back, goes-on, stays-free}
 use Rattle.esb_sound.specs.Told.{is_fault, told}
 use Rattle.esb_top.specs.Turn.{IsAtRest, IsFree, TurnsOne}
@@ -54,8 +56,8 @@ module _ (es new : List Event) (e : Event) (is : new ≡ es ++ e ∷ []) (legal 
   going-by hand none = ap doing is ∙ goes-on es e j hand (outcome-is ∙ none)
 
   -- it is over once its build is settled
-  pub over-by : (o : Outcome) → doing_after (in_hand es) e ≡ Some j → (build_at (replay new).builds (build_of j)).outcome ≡ Some o → IsFree new
-  over-by o hand some = ap doing is ∙ ends es e j o hand (outcome-is ∙ some)
+  pub over-by : (o : Outcome) → unless_over (Some o) j ≡ None → doing_after (in_hand es) e ≡ Some j → (build_at (replay new).builds (build_of j)).outcome ≡ Some o → IsFree new
+  over-by o over hand some = ap doing is ∙ ends es e j o over hand (outcome-is ∙ some)
 
 module _ (tells : Type 0) (world : List Folder) (es : List Event) where
   next-with : (packets : List Packet) (j : Option Job) → doing es ≡ j → next world packets es ≡ step_by world packets es j
@@ -136,6 +138,18 @@ module _ (tells : Type 0) (world : List Folder) (es : List Event) where
   -- a settling for want of memory may come at any moment
   pub refusal-in_turn : (n : ℕ) → (doing es ≡ Some (job.Link n)) ⊎ ((t : Task) × (doing es ≡ Some (job.Scan n t))) → IsInTurn tells world es (event.Settle 0 n outcomes.Memory)
   refusal-in_turn n hand = record { goes_on = refl; handles = (refl, hand); follows = λ told lapse packets arrives. absurd (false≢true (sym lapse)) }
+
+  nothing-failed : (f : Failures) → has_failed f ≡ false → f ≡ failures.Paths []
+  nothing-failed failures.All none = absurd (false≢true (sym none))
+  nothing-failed (failures.Paths []) none = refl
+  nothing-failed (failures.Paths (failure ∷ more)) none = absurd (false≢true (sym none))
+
+  pub written-in_turn : (n : ℕ) (f : Failures) → doing es ≡ Some (job.Write n) → IsInTurn tells world es (event.Written 0 n f)
+  written-in_turn n f is = record {
+    goes_on = refl;
+    handles = (refl, is);
+    follows = λ told_it lapse packets arrives. next-with packets (Some (job.Write n)) is ∙ ap (λ (g : Failures). Some (event.Written 0 n g)) (sym (nothing-failed f lapse));
+  }
 
 -- ---- a pop
 

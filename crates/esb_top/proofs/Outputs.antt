@@ -9,6 +9,7 @@ use Rattle.esb_top.specs.Output.{IsWritten}
 use Rattle.std.proofs.Common.{Option, Some, slice_get}
 use Rattle.std.specs.List.{flat_map}
 use Rattle.esb_flags.specs.declared.options.Options.{Options}
+use Rattle.esb_ask.specs.declared.outcome.Failures.{Failures}
 use Rattle.esb_ask.specs.declared.outcome.Outcome.{Outcome}
 use Rattle.esb_wire.specs.declared.value.Packet.{Packet}
 use Rattle.esb_wire.specs.Written.{written_frame}
@@ -18,7 +19,7 @@ use Rattle.esb_core.specs.declared.out.Body.TheVariants as bodies
 use Rattle.esb_core.specs.declared.event.Event.{Event}
 use Rattle.esb_core.specs.declared.event.Event.TheVariants as events
 use Rattle.esb_core.specs.State.{Building, State, build_at}
-use Rattle.esb_core.specs.History.{is_legal, outcome, owed, replay}
+use Rattle.esb_core.specs.History.{failed, is_legal, outcome, owed, replay}
 use Rattle.esb_core.proofs.Laws.{reads-legal}
 use Rattle.esb_reply.specs.Reply.{packet_for}
 use Rattle.esb_sound.specs.Sent.{first_packet, packet_after, sends, sent, sent_packets}
@@ -64,9 +65,11 @@ wrote-more before old now so_far more (Err f) w ok err =
 packet-is : (es : List Event) (out : Out) → is_legal es ≡ true → packet_after es out ≡ packet_in (replay es).builds out
 packet-is es (outs.Reply id bodies.Empty) legal = refl
 packet-is es (outs.Reply id (bodies.Error text)) legal = refl
+packet-is es (outs.Reply id (bodies.Closed n)) legal = refl
 packet-is es (outs.Reply id (bodies.Result n)) legal =
-    ap (λ (o : Options). packet_for (outs.Reply id (bodies.Result n)) o.write (outcome es n)) (options-are es n legal)
-    ∙ ap (λ (o : Option Outcome). packet_for (outs.Reply id (bodies.Result n)) (build_at (replay es).builds n).options.write o) (sym ((reads-legal es legal).outcomes n))
+    ap (λ (o : Options). packet_for (outs.Reply id (bodies.Result n)) o.write (outcome es n) (failed es n)) (options-are es n legal)
+    ∙ ap (λ (o : Option Outcome). packet_for (outs.Reply id (bodies.Result n)) (build_at (replay es).builds n).options.write o (failed es n)) (sym ((reads-legal es legal).outcomes n))
+    ∙ ap (λ (f : Option Failures). packet_for (outs.Reply id (bodies.Result n)) (build_at (replay es).builds n).options.write (build_at (replay es).builds n).outcome f) (sym ((reads-legal es legal).failures n))
 
 -- the bytes that a pop sends
 pub sent-pop : (es new : List Event) (out : Out) → is_legal es ≡ true → slice_get (replay es).owed 0 ≡ Some out → new ≡ es ++ events.Pop ∷ []

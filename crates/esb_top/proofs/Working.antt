@@ -18,15 +18,15 @@ use Rattle.esb_ask.specs.Table.{fits, kept, same_question}
 use Rattle.esb_core.specs.declared.event.Job.{Job}
 use Rattle.esb_core.specs.declared.event.Job.TheVariants as job
 use Rattle.esb_core.specs.declared.event.Role.TheVariants as role
-use Rattle.esb_core.proofs.Claims.{first-is, job-fits, scan-is, link-is}
+use Rattle.esb_core.proofs.Claims.{first-is, job-fits, scan-is, link-is, write-is}
 use Rattle.esb_ask.proofs.Tables.{same-refl}
 use Rattle.esb_core.specs.declared.event.Event.{Event}
 use Rattle.esb_core.specs.declared.event.Event.TheVariants as event
 use Rattle.esb_core.specs.State.{Building, State, build_at, no_build}
 use Rattle.esb_core.specs.Sizes.{is_overfull, too_large}
-use Rattle.esb_core.specs.Moves.{added_or, closed, keep, kept_unless}
-use Rattle.esb_core.specs.Steps.{after, moved, all_moved, moves, standing, answered, ended_by, is_claim, task_claimed, link_claimed}
-use Rattle.esb_core.specs.Allowed.{allowed, has_task, has_begun, has_claim, is_linker, first_job, first_from, job_of, names_job, same_job}
+use Rattle.esb_core.specs.Moves.{added_or, ended, keep, kept_unless}
+use Rattle.esb_core.specs.Steps.{after, moved, all_moved, moves, standing, answered, ended_by, closed_by, is_claim, task_claimed, link_claimed, write_claimed}
+use Rattle.esb_core.specs.Allowed.{allowed, has_task, has_begun, has_claim, is_linker, is_writer, may_fail, first_job, first_from, job_of, names_job, same_job}
 use Rattle.esb_core.specs.History.{Begun, build, table, is_legal, moves_in, replay}
 use Rattle.esb_core.proofs.Readings.{begun_of, build-read}
 use Rattle.esb_core.proofs.Laws.{reads-legal}
@@ -34,14 +34,15 @@ use Rattle.esb_scan.specs.declared.run.Run.TheVariants as runs
 use Rattle.esb_scan.specs.Run.{run, trail}
 use Rattle.esb_scan.proofs.Runs.{asks_new, run_fits}
 use Rattle.esb_sound.specs.Serial.{IsInTurn, doing, doing_after, in_hand}
-use Rattle.esb_sound.proofs.Doing.{doing-hand}
+use Rattle.esb_ask.specs.declared.outcome.Failures.TheVariants as failures
+use Rattle.esb_sound.proofs.Doing.{doing-hand, writes}
 use Rattle.esb_sound.specs.Sound.{IsLinked}
 use Rattle.esb_sound.specs.Told.{is_fault}
 use Rattle.esb_top.specs.Entries.{Entries, AddedWithin}
-use Rattle.esb_top.specs.Work.{Worked, AtWork, AtLink, Answered, IsGoing, Linked}
+use Rattle.esb_top.specs.Work.{Worked, AtWork, AtLink, AtWriting, Answered, IsGoing, Linked}
 use Rattle.esb_scan.specs.Complete.{IsComplete}
 use Rattle.esb_top.specs.Turn.{IsFree}
-use Rattle.esb_top.proofs.InOrder.{claim-in_turn, deliver-in_turn, going-by, over-by, record-in_turn, refusal-in_turn, settle-in_turn}
+use Rattle.esb_top.proofs.InOrder.{claim-in_turn, deliver-in_turn, going-by, over-by, record-in_turn, refusal-in_turn, settle-in_turn, written-in_turn}
 use Rattle.esb_top.proofs.Histories.{IsOfWork, all_moved-ended, replay-push, worked-push, worked-trans}
 
 -- ---- the direct answers about a legal list
@@ -73,14 +74,22 @@ record-ends : (s : State) (n : ℕ) (q : Question) (a : Answer) → n < length s
 record-ends s n q a lt none over =
     ap (λ (o : Option Outcome). (build_at (all_moved s (kept_unless (standing s n) n q a o)).builds n).outcome) none
     ∙ ap (λ (large : Bool). (build_at (all_moved s (added_or (standing s n) n large (keep n q a ∷ []))).builds n).outcome) over
-    ∙ closes (build_at s.builds n).options.context
+    ∙ closes (standing s n).stays
   where
-    there : (build_at (slice_set s.builds n (ended_by (build_at s.builds n) too_large)) n).outcome ≡ Some too_large
+    bs : List Building
+    bs = slice_set s.builds n (ended_by (build_at s.builds n) too_large)
+
+    there : (build_at bs n).outcome ≡ Some too_large
     there = ap (λ (b : Building). b.outcome) (get_or-set_same s.builds n (ended_by (build_at s.builds n) too_large) no_build lt)
 
-    closes : (stays : Bool) → (build_at (all_moved s (closed (build_at s.builds n).key stays n too_large)).builds n).outcome ≡ Some too_large
-    closes true = there
-    closes false = there
+    shut : (build_at (slice_set bs n (closed_by (build_at bs n))) n).outcome ≡ Some too_large
+    shut =
+        let long = length-set s.builds n (ended_by (build_at s.builds n) too_large) in
+        ap (λ (b : Building). b.outcome) (get_or-set_same bs n (closed_by (build_at bs n)) no_build (omega (arith, lt, long))) ∙ there
+
+    closes : (stays : Bool) → (build_at (all_moved s (ended (build_at s.builds n).key stays n too_large)).builds n).outcome ≡ Some too_large
+    closes true = shut
+    closes false = shut
 
 at-record : (s : State) (n : ℕ) (t : Task) (q : Question) (a : Answer) → AtWork s n t → is_overfull (kept (build_at s.builds n).table q a) ≡ false → AtWork (after s (event.Record 0 n q a)) n t
 at-record s n t q a at small =
@@ -141,7 +150,7 @@ asked-step tells world fo fn old new n q t options large legal go asks got le =
             same_options = ap (λ (u : State). (build_at u.builds n).options) pushed ∙ ap (λ (b : Building). b.options) (record-leaves s n q got.answer at.begun at.unsettled fit) ∙ go.same_options;
           };
       over = λ much.
-          over-by old.events new.events e got.added.events legal may (job.Scan n t) too_large hand
+          over-by old.events new.events e got.added.events legal may (job.Scan n t) too_large refl hand
           (ap (λ (u : State). (build_at u.builds n).outcome) pushed ∙ record-ends s n q got.answer at.begun at.unsettled (sym got.size ∙ much));
       worked = worked-push tells world fo fn old.events new.events e got.added.events (record-work n q got.answer)
           (λ h. record {
@@ -218,6 +227,7 @@ may-settle s n outcomes.Memory options answers at right =
 pub claim-work : (j : Job) → IsOfWork (event.Claim (role.Worker 0) j)
 claim-work (job.Scan n t) = record { none_arrived = refl; none_sent = λ g. refl; goes_on = λ s. refl }
 claim-work (job.Link n) = record { none_arrived = refl; none_sent = λ g. refl; goes_on = λ s. refl }
+claim-work (job.Write n) = record { none_arrived = refl; none_sent = λ g. refl; goes_on = λ s. refl }
 
 -- a job may be claimed: none is in hand, nothing is owed, and it is the first
 pub record IsNextJob (es : List Event) (j : Job) : Type 0 where
@@ -234,6 +244,7 @@ claimed-step tells world f es new j may is =
 same_job-refl : (j : Job) → same_job j j ≡ true
 same_job-refl (job.Scan n t) = both (nat_eq n n) (same_task t t) (eq-eqb n n refl) (same_task-refl t)
 same_job-refl (job.Link n) = eq-eqb n n refl
+same_job-refl (job.Write n) = eq-eqb n n refl
 
 pub may-claim : (s : State) (j : Job) → first_job s (role.Worker 0) ≡ Some j → allowed s (event.Claim (role.Worker 0) j) ≡ true
 may-claim s j e = ap (λ o. names_job o j) e ∙ same_job-refl j
@@ -297,3 +308,40 @@ pub linked-by : (old new : Entries) (n : ℕ) (o : Outcome) → is_legal old.eve
     → AddedWithin old new (event.Settle 0 n o) ⊎ AddedWithin old new (event.Settle 0 n outcomes.Memory) → Linked old new n
 linked-by old new n o legal right (inl added) = let room = added.room in record { outcome = o; right = right; added = added.events; room = omega arith; legal = legal }
 linked-by old new n o legal right (inr added) = let room = added.room in record { outcome = outcomes.Memory; right = tt; added = added.events; room = omega arith; legal = legal }
+
+-- ---- the writing of files
+
+pub at-write : (es new : List Event) (n : ℕ) → new ≡ es ++ event.Claim (role.Worker 0) (job.Write n) ∷ [] → first_job (replay es) (role.Worker 0) ≡ Some (job.Write n) → AtWriting (replay new) n
+at-write es new n is e =
+    let s = replay es in
+    let ready = write-is s.builds n (first-is 0 s.builds (job.Write n) e) in
+    let b = write_claimed (build_at s.builds n) 0 in
+    let here : build_at (slice_set s.builds n b) n ≡ b = get_or-set_same s.builds n b no_build ready.begun in
+    subst (λ (u : State). AtWriting u n) (sym (ap replay is ∙ replay-push es (event.Claim (role.Worker 0) (job.Write n)))) record {
+      begun = omega (arith, ready.begun, length-set s.builds n b);
+      files = ready.writes.files;
+      outcome = ap (λ (c : Building). c.outcome) here ∙ ready.writes.outcome;
+      claimed = ap (λ (c : Building). c.writer) here;
+    }
+
+pub may-write-all : (s : State) (n : ℕ) → AtWriting s n → allowed s (event.Written 0 n failures.All) ≡ true
+may-write-all s n at =
+    both (has_begun s n) (is_writer (build_at s.builds n).writer 0 && may_fail (build_at s.builds n).outcome failures.All) (begun-is s n at.begun)
+    (both (is_writer (build_at s.builds n).writer 0) (may_fail (build_at s.builds n).outcome failures.All) (ap (λ (w : Option ℕ). is_writer w 0) at.claimed)
+    (ap (λ (o : Option Outcome). may_fail o failures.All) at.outcome))
+
+pub all-added : (old new : Entries) (n : ℕ) → AddedWithin old new (event.Written 0 n failures.All) ⊎ AddedWithin old new (event.Written 0 n failures.All) → new.events ≡ old.events ++ event.Written 0 n failures.All ∷ []
+all-added old new n (inl added) = added.events
+all-added old new n (inr added) = added.events
+
+pub all-room : (old new : Entries) (n : ℕ) → AddedWithin old new (event.Written 0 n failures.All) ⊎ AddedWithin old new (event.Written 0 n failures.All) → old.promised ≤ new.promised + 1
+all-room old new n (inl added) = let room = added.room in omega arith
+all-room old new n (inr added) = let room = added.room in omega arith
+
+pub written-step : (tells : Type 0) (world : List Folder) (f : ℕ) (es mid new : List Event) (n : ℕ) → IsNextJob es (job.Write n) → mid ≡ es ++ event.Claim (role.Worker 0) (job.Write n) ∷ [] → new ≡ mid ++ event.Written 0 n failures.All ∷ []
+    → Worked tells world f f es new
+written-step tells world f es mid new n may is added =
+    worked-trans tells world f f f es mid new (claimed-step tells world f es mid (job.Write n) may is)
+    (worked-push tells world f f mid new (event.Written 0 n failures.All) added
+    (record { none_arrived = refl; none_sent = λ g. refl; goes_on = λ s. all_moved-ended s (moves s (event.Written 0 n failures.All)) }) (λ h. tt) (λ h. tt)
+    (written-in_turn tells world mid n failures.All (ap doing is ∙ writes es (event.Claim (role.Worker 0) (job.Write n)) n refl)) (λ e. absurd (false≢true e)) (omega arith))

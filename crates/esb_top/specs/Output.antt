@@ -36,9 +36,10 @@ pub record IsPut (tells : Type 0) (holds_old holds_new : List ℕ) (faults_old f
 
 -- the packet of what is owed, by the builds
 abbrev pub packet_in_body : List Building → ℕ → Body → Packet
-packet_in_body builds id (bodies.Result n) = packet_for (outs.Reply id (bodies.Result n)) (build_at builds n).options.write (build_at builds n).outcome
-packet_in_body builds id bodies.Empty = packet_for (outs.Reply id bodies.Empty) false None
-packet_in_body builds id (bodies.Error text) = packet_for (outs.Reply id (bodies.Error text)) false None
+packet_in_body builds id (bodies.Result n) = packet_for (outs.Reply id (bodies.Result n)) (build_at builds n).options.write (build_at builds n).outcome (build_at builds n).failed
+packet_in_body builds id bodies.Empty = packet_for (outs.Reply id bodies.Empty) false None None
+packet_in_body builds id (bodies.Error text) = packet_for (outs.Reply id (bodies.Error text)) false None None
+packet_in_body builds id (bodies.Closed n) = packet_for (outs.Reply id (bodies.Closed n)) false None None
 
 abbrev pub packet_in : List Building → Out → Packet
 packet_in builds (outs.Reply id body) = packet_in_body builds id body

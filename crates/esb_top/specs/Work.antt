@@ -6,7 +6,9 @@ use Rattle.esb_ask.specs.declared.task.Task.{Task}
 use Rattle.esb_ask.specs.declared.question.Question.{Question}
 use Rattle.esb_ask.specs.declared.answer.Answer.{Answer}
 use Rattle.esb_ask.specs.declared.answer.Answer.TheVariants as answers
+use Rattle.esb_ask.specs.declared.outcome.OutFile.{OutFile}
 use Rattle.esb_ask.specs.declared.outcome.Outcome.{Outcome}
+use Rattle.esb_ask.specs.declared.outcome.Outcome.TheVariants as outcomes
 use Rattle.esb_ask.specs.Table.{fits, kept}
 use Rattle.esb_flags.specs.declared.options.Options.{Options}
 use Rattle.esb_core.specs.declared.event.Job.TheVariants as jobs
@@ -43,6 +45,13 @@ pub record AtLink (s : State) (n : ℕ) : Type 0 where
   pub begun : n < length s.builds
   pub unsettled : (build_at s.builds n).outcome ≡ None
   pub claimed : (build_at s.builds n).linker ≡ Some 0
+
+-- the worker has claimed the writing of a build's files
+pub record AtWriting (s : State) (n : ℕ) : Type 0 where
+  pub begun : n < length s.builds
+  pub files : List OutFile
+  pub outcome : (build_at s.builds n).outcome ≡ Some (outcomes.Files files)
+  pub claimed : (build_at s.builds n).writer ≡ Some 0
 
 -- a task of a build is in hand, and goes on
 pub record IsGoing (list : List Event) (n : ℕ) (task : Task) (options : Options) : Type 0 where

@@ -10,7 +10,7 @@ ghost use Rattle.esb_core.specs.State.{build_at};
 ghost use Rattle.esb_core.specs.Steps.{told_kept};
 ghost use Rattle.esb_sound.specs.Serial.{is_refused};
 
-use esb_ask::{Answer, Outcome, Product, Question, Table, Task};
+use esb_ask::{Answer, Failures, Outcome, Product, Question, Table, Task};
 use esb_base::{List, Memory};
 use esb_core::{Claimed, Event, Job, Journal, Machine, Out, Role, Told, View};
 use esb_wire::Packet;
@@ -69,7 +69,7 @@ impl History {
         })
     }
 
-    /// Whether a build was settled for want of memory.
+    /// Whether a build was settled for want of memory, or the list of the files that were not put was refused memory.
     pub(crate) fn has_refusal(&self) -> bool
         ensures { result ≡ list_any is_refused self.now.events }
     {
@@ -77,6 +77,9 @@ impl History {
             event,
             Event::Settle {
                 outcome: Outcome::Memory,
+                ..
+            } | Event::Written {
+                failures: Failures::All,
                 ..
             }
         ))
@@ -251,6 +254,40 @@ impl History {
         self.promised -= 1;
     }
 
+    /// Says which files of a build were not put, in the room that a claim made. It is never refused: where the journal can have
+    /// no copy of the list, it says so of each file.
+    pub(crate) fn written(&mut self, build: u32, failures: Failures)
+        requires may { allowed (replay self.old.events) (Event.Written 0 build failures) ≡ true }
+        requires may_all { allowed (replay self.old.events) (Event.Written 0 build Failures.All) ≡ true }
+        requires room { 0 < self.old.promised }
+        ensures { AddedWithin self.old self.new (Event.Written 0 build failures) ⊎ AddedWithin self.old self.new (Event.Written 0 build Failures.All) }
+    {
+        match failures.share() {
+            Ok(copy) => self.written_as(build, failures, copy),
+            Err(Memory) => self.written_as(build, Failures::All, Failures::All),
+        }
+    }
+
+    fn written_as(&mut self, build: u32, failures: Failures, copy: Failures)
+        requires may { allowed (replay self.old.events) (Event.Written 0 build failures) ≡ true }
+        requires same { copy ≡ failures }
+        requires room { 0 < self.old.promised }
+        ensures { AddedWithin self.old self.new (Event.Written 0 build failures) }
+    {
+        let made = Event::Written {
+            worker: WORKER,
+            build,
+            failures,
+        };
+        let _told = self.machine.step(made).unwrap();
+        self.events.push_reserved(Event::Written {
+            worker: WORKER,
+            build,
+            failures: copy,
+        });
+        self.promised -= 1;
+    }
+
     /// Takes off the first that is owed.
     pub(crate) fn pop(&mut self) -> Result<Option<Out>, Memory>
         ensures first { IfOk result (λ out. out ≡ slice_get (replay self.old.events).owed 0) }
@@ -294,6 +331,7 @@ impl History {
         requires { build < length (replay self.now.events).builds }
         ensures options { IfOk result (λ view. view.options ≡ (build_at (replay self.now.events).builds build).options) }
         ensures outcome { IfOk result (λ view. view.outcome ≡ (build_at (replay self.now.events).builds build).outcome) }
+        ensures failed { IfOk result (λ view. view.failed ≡ (build_at (replay self.now.events).builds build).failed) }
     {
         self.machine.view(build)
     }

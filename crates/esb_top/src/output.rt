@@ -36,6 +36,7 @@ fn packet_for(alloc: Global, history: &History, out: &Out) -> Result<Packet, Mem
         }
         Body::Empty => packet_of(alloc, out, None),
         Body::Error(_) => packet_of(alloc, out, None),
+        Body::Closed { build: _ } => packet_of(alloc, out, None),
     }
 }
 

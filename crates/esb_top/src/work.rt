@@ -17,7 +17,7 @@ ghost use Rattle.esb_top.specs.Turn.{IsFree};
 ghost use Rattle.esb_top.specs.Work.{Answered, AtLink, AtWork, IsGoing, Linked, Worked};
 
 use crate::history::History;
-use esb_ask::{Answer, Outcome, Product, Question, Table, Task};
+use esb_ask::{Answer, Failures, Outcome, Product, Question, Table, Task};
 use esb_base::{Host, KindAnswer, Memory, ReadAnswer, Shared};
 use esb_core::{Event, Job, Role};
 use esb_flags::Options;
@@ -239,6 +239,8 @@ pub(crate) fn do_job<H: Host>(
     match job {
         Job::Scan { build, task } => scan(alloc, history, host, *build, task),
         Job::Link { build } => link_build(alloc, history, *build),
+        // A session puts no files so far: no request is accepted that asks for it.
+        Job::Write { build } => history.written(*build, Failures::All),
     }
     Ok(())
 }

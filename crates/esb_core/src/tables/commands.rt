@@ -5,7 +5,7 @@ ghost use Rattle.std.specs.Option.{option_copied};
 ghost use Rattle.esb_flags.specs.declared.options.Options.{Options};
 ghost use Rattle.std.specs.Vec.{vec_capacity};
 ghost use Rattle.esb_core.specs.Kept.{loads, state_of, IsKept};
-ghost use Rattle.esb_core.specs.Moves.{begun, canceled, commanded, done, effect, join, key_of, make, most_builds, options_of, owe, refusal};
+ghost use Rattle.esb_core.specs.Moves.{begun, canceled, commanded, disposed, done, effect, join, key_of, make, most_builds, options_of, owe, refusal, unknown};
 ghost use Rattle.esb_core.specs.State.{build_at};
 ghost use Rattle.esb_core.specs.Steps.{active_of, all_moved, fresh, joined, met, moved};
 ghost use Rattle.esb_core.specs.declared.out.Out.TheVariants as outs;
@@ -20,6 +20,9 @@ use esb_flags::{Command, Options};
 
 /// Why a request is refused that names no context.
 const UNKNOWN: &str = "Unknown key";
+
+/// Why no more requests can wait for a build.
+const CROWDED: &str = "Too many waiters";
 
 impl Tables {
     /// Whether no build can begin any more.
@@ -59,10 +62,10 @@ impl Tables {
         requires { IsKept self.now }
         ensures { option_copied result ≡ refusal (met (state_of self.now) key) (Command.Rebuild key) }
     {
-        if self.contexts.options(key).is_none() {
+        if self.is_unknown(key) {
             Some(UNKNOWN)
         } else if self.waiting(key) >= MOST_WAITING {
-            Some("Too many waiters")
+            Some(CROWDED)
         } else if self.contexts.active(key).is_none() && self.is_full() {
             Some("Too many builds")
         } else {
@@ -70,11 +73,32 @@ impl Tables {
         }
     }
 
-    fn refuse_unknown(&self, key: u32) -> Option<&'static str>
+    /// Whether the active build of a context is settled: a cancel or a dispose waits for its close.
+    fn is_settled(&self, key: u32) -> bool
+        requires { IsKept self.now }
+        ensures { result ≡ (met (state_of self.now) key).settled }
+    {
+        match self.contexts.active(key) {
+            None => false,
+            Some(build) => self.builds[build as usize].is_settled(),
+        }
+    }
+
+    /// Whether there is no context with this key, or a disposed one.
+    fn is_unknown(&self, key: u32) -> bool
+        ensures { result ≡ (unknown (met (state_of self.now) key)).0 }
+    {
+        self.contexts.options(key).is_none() || self.contexts.is_retired(key)
+    }
+
+    fn refuse_stop(&self, key: u32) -> Option<&'static str>
+        requires { IsKept self.now }
         ensures { option_copied result ≡ refusal (met (state_of self.now) key) (Command.Cancel key) }
     {
-        if self.contexts.options(key).is_none() {
+        if self.is_unknown(key) {
             Some(UNKNOWN)
+        } else if self.is_settled(key) && self.waiting(key) >= MOST_WAITING {
+            Some(CROWDED)
         } else {
             None
         }
@@ -84,6 +108,9 @@ impl Tables {
     fn refuse_service(&self, key: u32) -> Option<&'static str>
         ensures { option_copied result ≡ refusal (met (state_of self.now) key) (Command.Watch key) }
     {
+        if self.contexts.is_retired(key) {
+            return Some(UNKNOWN);
+        }
         match self.contexts.options(key) {
             None => Some(UNKNOWN),
             Some(options) if !options.get().context => Some("Not a context"),
@@ -99,8 +126,8 @@ impl Tables {
         match command {
             Command::Build { key, options } => self.refuse_build(*key, options.context),
             Command::Rebuild(key) => self.refuse_rebuild(*key),
-            Command::Cancel(key) => self.refuse_unknown(*key),
-            Command::Dispose(key) => self.refuse_unknown(*key),
+            Command::Cancel(key) => self.refuse_stop(*key),
+            Command::Dispose(key) => self.refuse_stop(*key),
             Command::Watch(key) => self.refuse_service(*key),
             Command::Serve { key, port: _ } => self.refuse_service(*key),
             Command::Ping => None,
@@ -140,14 +167,14 @@ impl Tables {
     /// A build for which one request waits, with room for it and for its reply.
     fn build(&mut self, id: u32, key: u32, options: Shared<Options>) -> Result<Build, Memory>
         requires kept { IsKept self.old }
-        ensures build { IfOk result (λ build. build ≡ joined (fresh key options) id) }
+        ensures build { IfOk result (λ build. build ≡ joined (fresh key options) id true) }
         ensures same { state_of self.new ≡ state_of self.old }
         ensures kept { IsKept self.new }
         ensures room { OnOk result (length self.new.builds.items + 1 ≤ vec_capacity self.new.builds) }
         ensures promised { OnOk result (loads self.new.builds.items + 1 ≤ self.new.replies.promised) }
     {
         let mut build = Build::new(self.alloc, key, options)?;
-        build.join(id)?;
+        build.join(id, true)?;
         self.builds.reserve(1)?;
         self.replies.promise()?;
         Ok(build)
@@ -196,17 +223,17 @@ impl Tables {
         Ok(())
     }
 
-    /// A request waits for an active build.
-    fn join(&mut self, id: u32, build: u32) -> Result<(), Memory>
+    /// A request waits for an active build, for its result or for its close alone.
+    fn join(&mut self, id: u32, build: u32, result_wanted: bool) -> Result<(), Memory>
         requires kept { IsKept self.old }
         requires begun { build < length self.old.builds.items }
-        requires unsettled { (build_at self.old.builds.items build).outcome ≡ None }
-        ensures ok { OnOk result (state_of self.new ≡ moved (state_of self.old) (join build id)) }
+        requires open { (build_at self.old.builds.items build).closed ≡ false }
+        ensures ok { OnOk result (state_of self.new ≡ moved (state_of self.old) (join build id result_wanted)) }
         ensures err { OnErr result (state_of self.new ≡ state_of self.old) }
         ensures kept { IsKept self.new }
     {
         self.replies.promise()?;
-        self.builds[build as usize].join(id)
+        self.builds[build as usize].join(id, result_wanted)
     }
 
     /// A request joins the active build of a context, or begins one.
@@ -218,7 +245,7 @@ impl Tables {
         ensures kept { IsKept self.new }
     {
         if let Some(build) = self.contexts.active(key) {
-            return self.join(id, build);
+            return self.join(id, build, true);
         }
         let Some(options) = self.contexts.options(key) else {
             unreachable!();
@@ -227,10 +254,12 @@ impl Tables {
         self.begin(id, key, options)
     }
 
-    /// The active build of a context is canceled, if there is one, and the context is removed unless it stays. It takes no memory.
+    /// The active build of a context, which isn't settled, is canceled, if there is one, and the context is removed unless it
+    /// stays. It takes no memory.
     fn cancel_active(&mut self, key: u32, stays: bool)
         requires kept { IsKept self.old }
-        ensures state { state_of self.new ≡ all_moved (state_of self.old) (canceled key stays (active_of (state_of self.old) key)) }
+        requires unsettled { (met (state_of self.old) key).settled ≡ false }
+        ensures state { state_of self.new ≡ all_moved (state_of self.old) (canceled (met (state_of self.old) key) 0 key stays (active_of (state_of self.old) key) []) }
         ensures kept { IsKept self.new }
         ensures spare { (more : ℕ) → loads self.old.builds.items + more ≤ self.old.replies.promised → loads self.new.builds.items + more ≤ self.new.replies.promised }
     {
@@ -239,7 +268,21 @@ impl Tables {
         }
     }
 
-    /// Whether the context with this key stays once its build is settled.
+    /// A request waits for the close of the active build of a context, which is settled.
+    fn wait(&mut self, id: u32, key: u32) -> Result<(), Memory>
+        requires kept { IsKept self.old }
+        requires settled { (met (state_of self.old) key).settled ≡ true }
+        ensures ok { OnOk result (state_of self.new ≡ all_moved (state_of self.old) (canceled (met (state_of self.old) key) id key true (active_of (state_of self.old) key) [])) }
+        ensures err { OnErr result (state_of self.new ≡ state_of self.old) }
+        ensures kept { IsKept self.new }
+    {
+        match self.contexts.active(key) {
+            None => Ok(()),
+            Some(build) => self.join(id, build, false),
+        }
+    }
+
+    /// Whether the context with this key stays once its build is closed.
     fn stays(&self, key: u32) -> bool
         ensures { result ≡ (options_of (lookup (nat_eq key) self.now.contexts.contexts)).context }
     {
@@ -256,6 +299,9 @@ impl Tables {
         ensures err { OnErr result (state_of self.new ≡ state_of self.old) }
         ensures kept { IsKept self.new }
     {
+        if self.is_settled(key) {
+            return self.wait(id, key);
+        }
         let stays = self.stays(key);
         self.replies.promise()?;
         self.cancel_active(key, stays);
@@ -266,13 +312,32 @@ impl Tables {
         Ok(())
     }
 
-    /// The active build of a context is canceled, and the context is removed.
+    /// A context whose build is settled is disposed, and the request waits for the close.
+    fn retire(&mut self, id: u32, key: u32) -> Result<(), Memory>
+        requires kept { IsKept self.old }
+        requires settled { (met (state_of self.old) key).settled ≡ true }
+        ensures ok { OnOk result (state_of self.new ≡ all_moved (state_of self.old) (disposed (met (state_of self.old) key) id key)) }
+        ensures err { OnErr result (state_of self.new ≡ state_of self.old) }
+        ensures kept { IsKept self.new }
+    {
+        self.contexts.retire(key)?;
+        let waits = self.wait(id, key);
+        if waits.is_err() {
+            self.contexts.restore();
+        }
+        waits
+    }
+
+    /// The active build of a context is canceled, and the context is removed. One whose build is settled is removed at its close.
     fn dispose(&mut self, id: u32, key: u32) -> Result<(), Memory>
         requires kept { IsKept self.old }
         ensures ok { OnOk result (state_of self.new ≡ all_moved (state_of self.old) (effect (met (state_of self.old) key) id (Command.Dispose key))) }
         ensures err { OnErr result (state_of self.new ≡ state_of self.old) }
         ensures kept { IsKept self.new }
     {
+        if self.is_settled(key) {
+            return self.retire(id, key);
+        }
         self.replies.promise()?;
         self.cancel_active(key, true);
         self.contexts.remove(key);

@@ -1,7 +1,7 @@
 //! The jobs that are open.
 ghost use Rattle.std.specs.Prelude.{◌≡◌, IfOk};
 ghost use Rattle.std.specs.List.{list_all};
-ghost use Rattle.esb_core.specs.Allowed.{first_from, first_job, is_closing, is_settled, job_told, names_job};
+ghost use Rattle.esb_core.specs.Allowed.{first_from, first_job, is_closed, is_closing, job_told, names_job};
 ghost use Rattle.esb_core.specs.Kept.{state_of, IsKept};
 
 use crate::build::Build;
@@ -9,11 +9,11 @@ use crate::event::{Claimed, Job, Role};
 use crate::tables::Tables;
 use esb_base::Memory;
 
-/// Whether each of these builds is settled.
-fn are_settled(builds: &[Build]) -> bool
-    ensures { result ≡ list_all is_settled builds.now }
+/// Whether each of these builds is closed.
+fn are_closed(builds: &[Build]) -> bool
+    ensures { result ≡ list_all is_closed builds.now }
 {
-    builds.iter().all(|build| build.is_settled())
+    builds.iter().all(|build| build.is_closed())
 }
 
 impl Tables {
@@ -22,7 +22,7 @@ impl Tables {
         requires { IsKept self.now }
         ensures { result ≡ is_closing (state_of self.now) }
     {
-        self.ended && are_settled(&self.builds[self.passed..])
+        self.ended && are_closed(&self.builds[self.passed..])
     }
 
     /// The first open job of a worker.

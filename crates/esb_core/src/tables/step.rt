@@ -9,7 +9,7 @@ use crate::event::{Event, Job, Role, Told};
 use crate::packets::may_arrive;
 use crate::tables::Tables;
 use crate::view::View;
-use esb_ask::{Outcome, Product, Task};
+use esb_ask::{Failures, Outcome, Product, Task};
 use esb_base::Memory;
 
 impl Tables {
@@ -42,6 +42,15 @@ impl Tables {
         }
     }
 
+    fn may_write(&self, worker: u32, build: u32, failures: &Failures) -> bool
+        ensures { result ≡ allowed (state_of self.now) (Event.Written worker build failures.now) }
+    {
+        match self.builds.get(build as usize) {
+            None => false,
+            Some(build) => build.is_writer(worker) && build.may_fail(failures),
+        }
+    }
+
     /// Whether an event may come now. It takes no memory.
     pub(crate) fn allows(&self, event: &Event) -> bool
         requires { IsKept self.now }
@@ -68,6 +77,11 @@ impl Tables {
                 build,
                 outcome,
             } => self.may_settle(*worker, *build, outcome),
+            Event::Written {
+                worker,
+                build,
+                failures,
+            } => self.may_write(*worker, *build, failures),
             Event::Pop => !self.replies.is_empty(),
         }
     }
@@ -84,6 +98,7 @@ impl Tables {
                 self.claim_task(worker, build, task);
             }
             (Role::Worker(worker), Job::Link { build }) => self.claim_link(worker, build),
+            (Role::Worker(worker), Job::Write { build }) => self.claim_write(worker, build),
             (Role::Door(_), _) => {}
         }
     }
@@ -141,6 +156,14 @@ impl Tables {
                 build,
                 outcome,
             } => Ok(self.settle(worker, build, outcome)),
+            Event::Written {
+                worker: _,
+                build,
+                failures,
+            } => {
+                self.write(build, failures);
+                Ok(Told::Done)
+            }
             Event::Pop => Ok(self.pop()),
         }
     }
@@ -151,6 +174,7 @@ impl Tables {
         ensures key { IfOk result (λ view. view.key ≡ (build_at self.now.builds.items build).key) }
         ensures options { IfOk result (λ view. view.options ≡ (build_at self.now.builds.items build).options) }
         ensures outcome { IfOk result (λ view. view.outcome ≡ (build_at self.now.builds.items build).outcome) }
+        ensures failed { IfOk result (λ view. view.failed ≡ (build_at self.now.builds.items build).failed) }
     {
         self.builds[build as usize].view()
     }

@@ -1,17 +1,17 @@
 //! The work on builds.
-ghost use Rattle.std.specs.Prelude.{◌≡◌, ◌+◌, ◌<◌, ◌≤◌, ℕ, true, false, length, None, IfOk, OnOk, OnErr};
+ghost use Rattle.std.specs.Prelude.{◌≡◌, ◌∷◌, ◌+◌, ◌<◌, ◌≤◌, ℕ, true, false, length, None, IfOk, IsSome, OnOk, OnErr};
 ghost use Rattle.esb_ask.specs.Table.{fits, kept};
 ghost use Rattle.esb_core.specs.declared.event.Event.TheVariants as events;
 ghost use Rattle.esb_core.specs.Kept.{loads, state_of, IsKept};
-ghost use Rattle.esb_core.specs.Moves.{close, closed, closed_unless, keep, kept_unless, opened_unless, opens};
-ghost use Rattle.esb_core.specs.Order.{IsActive};
+ghost use Rattle.esb_core.specs.Moves.{close, closed, ended, keep, kept_unless, opened_unless, opens, puts, settle, settled, write};
+ghost use Rattle.esb_core.specs.Order.{IsActive, MayClose};
 ghost use Rattle.esb_core.specs.Sizes.{has_too_many, is_overfull, named, named_by, opened, too_large, too_large_message};
 ghost use Rattle.esb_core.specs.State.{build_at};
-ghost use Rattle.esb_core.specs.Steps.{after, all_moved, changed, link_claimed, moved, released, standing, task_claimed, told_deliver, told_if, told_record, told_stale, unclaimed};
+ghost use Rattle.esb_core.specs.Steps.{after, all_moved, changed, link_claimed, moved, released, standing, task_claimed, told_deliver, told_if, told_record, told_stale, unclaimed, write_claimed};
 
 use crate::event::Told;
 use crate::tables::Tables;
-use esb_ask::{Answer, Message, Outcome, Product, Question, Resolved, Task};
+use esb_ask::{Answer, Failures, Message, Outcome, Product, Question, Resolved, Task};
 use esb_base::{List, Memory, Shared, Text};
 use std::alloc::Global;
 
@@ -193,47 +193,119 @@ impl Tables {
         Ok(told)
     }
 
-    /// The active build of a context ends, and its results become owed. It takes no memory.
-    fn close(&mut self, key: u32, build: u32, outcome: Outcome)
+    /// A worker claims the writing of a build's files. It takes no memory.
+    pub(crate) fn claim_write(&mut self, worker: u32, build: u32)
         requires kept { IsKept self.old }
-        requires active { IsActive (state_of self.old) key build }
-        ensures state { state_of self.new ≡ moved (state_of self.old) (close key build outcome) }
+        requires begun { build < length self.old.builds.items }
+        requires settled { IsSome (build_at self.old.builds.items build).outcome }
+        requires open { (build_at self.old.builds.items build).closed ≡ false }
+        ensures state { state_of self.new ≡ changed (state_of self.old) build (write_claimed (build_at self.old.builds.items build) worker) }
+        ensures kept { IsKept self.new }
+    {
+        self.builds[build as usize].claim_write(worker);
+    }
+
+    /// A build that isn't settled is settled. It takes no memory.
+    fn settle_build(&mut self, build: u32, outcome: Outcome)
+        requires kept { IsKept self.old }
+        requires begun { build < length self.old.builds.items }
+        requires unsettled { (build_at self.old.builds.items build).outcome ≡ None }
+        ensures state { state_of self.new ≡ moved (state_of self.old) (settle build outcome) }
+        ensures kept { IsKept self.new }
+        ensures spare { (more : ℕ) → loads self.old.builds.items + more ≤ self.old.replies.promised → loads self.new.builds.items + more ≤ self.new.replies.promised }
+    {
+        self.builds[build as usize].end(outcome);
+    }
+
+    /// The active build of a context is closed, and the replies to the requests that wait for it become owed. It takes no memory.
+    fn close(&mut self, key: u32, build: u32)
+        requires kept { IsKept self.old }
+        requires over { MayClose (state_of self.old) key build }
+        ensures state { state_of self.new ≡ moved (state_of self.old) (close key build) }
         ensures kept { IsKept self.new }
         ensures spare { (more : ℕ) → loads self.old.builds.items + more ≤ self.old.replies.promised → loads self.new.builds.items + more ≤ self.new.replies.promised }
     {
         self.contexts.close(key);
         self.replies
             .owe_results(build, self.builds[build as usize].waiting());
-        self.builds[build as usize].end(outcome);
+        self.builds[build as usize].close();
         self.pass_over();
     }
 
-    /// The active build of a context ends, and the context is removed unless it stays. It takes no memory.
-    pub(crate) fn end_build(&mut self, key: u32, stays: bool, build: u32, outcome: Outcome)
+    /// The active build of a context is closed, and the context is removed unless it stays. It takes no memory.
+    fn close_build(&mut self, key: u32, stays: bool, build: u32)
         requires kept { IsKept self.old }
-        requires active { IsActive (state_of self.old) key build }
-        ensures state { state_of self.new ≡ all_moved (state_of self.old) (closed key stays build outcome) }
+        requires over { MayClose (state_of self.old) key build }
+        ensures state { state_of self.new ≡ all_moved (state_of self.old) (closed key stays build) }
         ensures kept { IsKept self.new }
         ensures spare { (more : ℕ) → loads self.old.builds.items + more ≤ self.old.replies.promised → loads self.new.builds.items + more ≤ self.new.replies.promised }
     {
-        self.close(key, build, outcome);
+        self.close(key, build);
         if !stays {
             self.contexts.remove(key);
         }
     }
 
-    /// A build that isn't settled ends, and its context is removed unless it stays. It takes no memory.
+    /// The active build of a context, which isn't settled, is settled and closed, and the context is removed unless it stays. The
+    /// build puts no files. It takes no memory.
+    pub(crate) fn end_build(&mut self, key: u32, stays: bool, build: u32, outcome: Outcome)
+        requires kept { IsKept self.old }
+        requires active { IsActive (state_of self.old) key build }
+        requires unsettled { (build_at self.old.builds.items build).outcome ≡ None }
+        requires plain { puts (build_at self.old.builds.items build).options.write outcome ≡ false }
+        ensures state { state_of self.new ≡ all_moved (state_of self.old) (ended key stays build outcome) }
+        ensures kept { IsKept self.new }
+        ensures spare { (more : ℕ) → loads self.old.builds.items + more ≤ self.old.replies.promised → loads self.new.builds.items + more ≤ self.new.replies.promised }
+    {
+        self.settle_build(build, outcome);
+        self.close_build(key, stays, build);
+    }
+
+    /// Whether the context of a build stays once the build is closed.
+    fn stays_after(&self, build: u32) -> bool
+        requires { build < length self.now.builds.items }
+        ensures { result ≡ (standing (state_of self.now) build).stays }
+    {
+        let build = &self.builds[build as usize];
+        build.options().get().context && !self.contexts.is_retired(build.key())
+    }
+
+    /// A build that isn't settled ends, which puts no files, and its context is removed unless it stays. It takes no memory.
     fn end_active(&mut self, build: u32, outcome: Outcome)
         requires kept { IsKept self.old }
         requires begun { build < length self.old.builds.items }
         requires unsettled { (build_at self.old.builds.items build).outcome ≡ None }
-        ensures state { state_of self.new ≡ all_moved (state_of self.old) (closed_unless (standing (state_of self.old) build) build outcome None) }
+        requires plain { puts (build_at self.old.builds.items build).options.write outcome ≡ false }
+        ensures state { state_of self.new ≡ all_moved (state_of self.old) (ended (standing (state_of self.old) build).key (standing (state_of self.old) build).stays build outcome) }
         ensures kept { IsKept self.new }
         ensures begun { build < length self.new.builds.items }
     {
         let key = self.builds[build as usize].key();
-        let stays = self.builds[build as usize].options().get().context;
+        let stays = self.stays_after(build);
         self.end_build(key, stays, build, outcome);
+    }
+
+    /// Whether a build that is settled so puts its files.
+    fn puts_files(&self, build: u32, outcome: &Outcome) -> bool
+        requires { build < length self.now.builds.items }
+        ensures { result ≡ puts (build_at self.now.builds.items build).options.write outcome.now }
+    {
+        matches!(outcome, Outcome::Files(_)) && self.builds[build as usize].options().get().write
+    }
+
+    /// The files of a build are put, but for these, and the build is closed. It takes no memory.
+    pub(crate) fn write(&mut self, build: u32, failures: Failures)
+        requires kept { IsKept self.old }
+        requires begun { build < length self.old.builds.items }
+        requires settled { IsSome (build_at self.old.builds.items build).outcome }
+        requires open { (build_at self.old.builds.items build).closed ≡ false }
+        ensures state { state_of self.new ≡ all_moved (state_of self.old) (write build failures ∷ closed (standing (state_of self.old) build).key (standing (state_of self.old) build).stays build) }
+        ensures kept { IsKept self.new }
+    {
+        let key = self.builds[build as usize].key();
+        let stays = self.stays_after(build);
+        self.builds[build as usize].write(failures);
+        self.close_build(key, stays, build);
     }
 
     /// A worker's claims in a build end. It takes no memory.
@@ -244,6 +316,22 @@ impl Tables {
         ensures kept { IsKept self.new }
     {
         self.builds[build as usize].release(worker);
+    }
+
+    /// A build that isn't settled is settled, and closed too unless it puts its files. It takes no memory.
+    fn settle_first(&mut self, build: u32, outcome: Outcome)
+        requires kept { IsKept self.old }
+        requires begun { build < length self.old.builds.items }
+        requires unsettled { (build_at self.old.builds.items build).outcome ≡ None }
+        ensures state { state_of self.new ≡ all_moved (state_of self.old) (settled (standing (state_of self.old) build) build outcome) }
+        ensures kept { IsKept self.new }
+        ensures begun { build < length self.new.builds.items }
+    {
+        if self.puts_files(build, &outcome) {
+            self.settle_build(build, outcome);
+        } else {
+            self.end_active(build, outcome);
+        }
     }
 
     /// A worker ends a build, unless it is settled, and its claims there end. It takes no memory.
@@ -258,19 +346,19 @@ impl Tables {
             self.release(worker, build);
             return Told::Stale;
         }
-        self.end_active(build, outcome);
+        self.settle_first(build, outcome);
         self.release(worker, build);
         Told::Done
     }
 
-    /// Passes over the first builds that are settled.
+    /// Passes over the first builds that are closed.
     fn pass_over(&mut self)
         requires { IsKept self.old }
         ensures state { state_of self.new ≡ state_of self.old }
         ensures replies { self.new.replies ≡ self.old.replies }
         ensures kept { IsKept self.new }
     {
-        while self.passed < self.builds.len() && self.builds[self.passed].is_settled() {
+        while self.passed < self.builds.len() && self.builds[self.passed].is_closed() {
             self.passed += 1;
         }
     }

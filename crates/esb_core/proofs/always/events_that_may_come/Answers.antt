@@ -1,6 +1,7 @@
 use Rattle.esb_core.proofs.Tells.{may-arrive-by, may-end-by, may-record-by, may-pop-by, closes-by}
 use Rattle.esb_core.proofs.Held.{may-deliver-by, may-link-by, may-link-errors-by, may-cancel-by, may-give_up-by}
 use Rattle.esb_core.proofs.Work.{may-claim-by}
+use Rattle.esb_core.proofs.Writes.{may-write-by}
 use Rattle.esb_core.proofs.always.events_that_may_come.Goals as goal
 
 pub returns-clause-arrive : goal.returns-clause-arrive
@@ -32,6 +33,9 @@ returns-clause-errors c = may-link-errors-by
 
 pub returns-clause-canceled : goal.returns-clause-canceled
 returns-clause-canceled c = may-cancel-by
+
+pub returns-clause-written : goal.returns-clause-written
+returns-clause-written c = may-write-by
 
 pub returns-clause-memory : goal.returns-clause-memory
 returns-clause-memory c = may-give_up-by

@@ -1,11 +1,12 @@
-use Rattle.std.proofs.Common.{refl}
+use Rattle.std.proofs.Common.{refl, arith}
+use Rattle.esb_ask.specs.declared.outcome.Failures.TheVariants as failures
 use Rattle.esb_core.specs.History.{replay}
 use Rattle.esb_core.specs.declared.event.Job.TheVariants as job
 use Rattle.esb_top.proofs.Histories.{worked-trans}
 use Rattle.esb_core.specs.declared.event.Event.TheVariants as event
 use Rattle.esb_core.specs.declared.event.Role.TheVariants as role
 use Rattle.esb_top.proofs.InOrder.{done-by, going-by}
-use Rattle.esb_top.proofs.Working.{at-link, at-scan, claimed-step, complete-after, link-job, linked-step, may-claim}
+use Rattle.esb_top.proofs.Working.{all-added, all-room, at-link, at-scan, at-write, claimed-step, complete-after, link-job, linked-step, may-claim, may-write-all, written-step}
 use Rattle.esb_top.proofs.work.do_job.Goals as goal
 
 pub claim-requires : goal.claim-requires
@@ -47,3 +48,26 @@ scan-requires-clause-in_hand g c =
 
 pub returns-in-Link-clause-free : goal.returns-in-Link-clause-free
 returns-in-Link-clause-free g c = done-by c.claim.new.self.events c.link_build.new.history.events (event.Settle 0 c.in-Link.build c.link_build.ensures.outcome) c.link_build.ensures.added refl
+
+pub written-requires-clause-may : goal.written-requires-clause-may
+written-requires-clause-may g c =
+    may-write-all (replay c.claim.new.self.events) c.in-Write.build (at-write c.args.history.now.events c.claim.new.self.events c.in-Write.build (rw c.in-Write.is at c.in_ok-claim.ensures.ok.events) (rw c.in-Write.is at c.requires.first))
+
+pub written-requires-clause-may_all : goal.written-requires-clause-may_all
+written-requires-clause-may_all g c =
+    may-write-all (replay c.claim.new.self.events) c.in-Write.build (at-write c.args.history.now.events c.claim.new.self.events c.in-Write.build (rw c.in-Write.is at c.in_ok-claim.ensures.ok.events) (rw c.in-Write.is at c.requires.first))
+
+pub returns-in-Write-clause-worked : goal.returns-in-Write-clause-worked
+returns-in-Write-clause-worked g c =
+    written-step g.H.Host.tells (g.H.Host.world c.args.host.now) (g.H.Host.faults c.args.host.now) c.args.history.now.events c.claim.new.self.events c.written.new.self.events c.in-Write.build
+    (record { legal = c.is_legal.ensures; free = c.requires.free; none_owed = c.requires.none_owed; first = rw c.in-Write.is at c.requires.first }) (rw c.in-Write.is at c.in_ok-claim.ensures.ok.events)
+    (all-added c.claim.new.self c.written.new.self c.in-Write.build c.written.ensures)
+
+pub returns-in-Write-clause-free : goal.returns-in-Write-clause-free
+returns-in-Write-clause-free g c =
+    done-by c.claim.new.self.events c.written.new.self.events (event.Written 0 c.in-Write.build failures.All) (all-added c.claim.new.self c.written.new.self c.in-Write.build c.written.ensures) refl
+
+pub returns-in-Write-clause-room : goal.returns-in-Write-clause-room
+returns-in-Write-clause-room g c =
+    let left = all-room c.claim.new.self c.written.new.self c.in-Write.build c.written.ensures in
+    omega (arith, left, c.in_ok-claim.ensures.room)

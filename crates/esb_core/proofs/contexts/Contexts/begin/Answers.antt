@@ -6,5 +6,5 @@ use Rattle.esb_core.proofs.contexts.Contexts.begin.Goals as goal
 
 pub returns-clause-ok : goal.returns-clause-ok
 returns-clause-ok c = rw (← c.self.view_is)
-    (ap (λ (es : List (ℕ × ℕ)). record { contexts = c.self.inside.options.entries; active = es })
+    (ap (λ (es : List (ℕ × ℕ)). record { contexts = c.self.inside.options.entries; retired = c.self.inside.retired.items; active = es })
     (c.in_ok-insert.ensures.entries ∙ inserted c.args.key c.args.build c.self.inside.active.entries (ap (λ (k : Known). lookup (nat_eq c.args.key) k.active) c.self.view_is ∙ c.requires)))

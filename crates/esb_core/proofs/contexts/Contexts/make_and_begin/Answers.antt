@@ -12,12 +12,12 @@ ok-of : {X F P : Type 0} (r : Result X F) → IsOk r → OnOk r P → P
 ok-of (Ok x) is p = p
 ok-of (Err e) is p = absurd (false≢true is)
 
-known : (a b : List (ℕ × Options)) (c d : List (ℕ × ℕ)) → a ≡ b → c ≡ d → ◌≡◌ {A = Known} (record { contexts = a; active = c }) (record { contexts = b; active = d })
-known a b c d one other = rw (one, other) refl
+known : (r : List ℕ) (a b : List (ℕ × Options)) (c d : List (ℕ × ℕ)) → a ≡ b → c ≡ d → ◌≡◌ {A = Known} (record { contexts = a; retired = r; active = c }) (record { contexts = b; retired = r; active = d })
+known r a b c d one other = rw (one, other) refl
 
 pub returns-clause-ok : goal.returns-clause-ok
 returns-clause-ok c = rw (← c.self.view_is)
-    (known _ _ _ _
+    (known _ _ _ _ _
     (c.in_ok-insert.ensures.entries ∙ inserted c.args.key c.args.options c.self.inside.options.entries (ap (λ (k : Known). lookup (nat_eq c.args.key) k.contexts) c.self.view_is ∙ c.requires.context))
     (ok-of c.insert-2.result (c.insert-2.ensures.succeeds (let room = c.in_ok-reserve.ensures.ok in omega (arith, room))) c.insert-2.ensures.entries
     ∙ ap (λ (es : List (ℕ × ℕ)). insert_entry nat_eq es c.args.key c.args.build) c.in_ok-reserve.ensures.entries

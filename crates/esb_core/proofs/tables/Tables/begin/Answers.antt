@@ -21,6 +21,7 @@ begun-state c =
     let same = c.in_ok-build.ensures.same in
     same-state
     (ap (λ (k : Known). k.contexts) c.in_ok-begin.ensures.ok ∙ ap (λ (s : State). s.contexts) same)
+    (ap (λ (k : Known). k.retired) c.in_ok-begin.ensures.ok ∙ ap (λ (s : State). s.retired) same)
     (ap (λ (k : Known). k.active) c.in_ok-begin.ensures.ok ∙ ap (λ (s : State). s.active ++ (c.args.key, c.next_build-number.result) ∷ []) same
     ∙ ap (λ (n : ℕ). c.args.self.now.contexts.active ++ (c.args.key, n) ∷ []) (c.next_build-number.ensures ∙ ap (λ (s : State). length s.builds) same))
     (c.push_reserved.ensures.items ∙ ap (λ (s : State). s.builds ++ c.in_ok-build.build ∷ []) same ∙ ap (λ (b : Building). c.args.self.now.builds.items ++ b ∷ []) c.in_ok-build.ensures.build

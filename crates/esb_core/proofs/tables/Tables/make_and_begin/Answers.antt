@@ -1,4 +1,4 @@
-use Rattle.std.proofs.Common.{◌≡◌, List, length, slice_set, false, ◌++◌, ◌∷◌, [], ℕ, refl, sym, ap, subst, ◌∙◌, arith}
+use Rattle.std.proofs.Common.{◌≡◌, List, length, slice_set, true, false, ◌++◌, ◌∷◌, [], ℕ, refl, sym, ap, subst, ◌∙◌, arith}
 use Rattle.esb_flags.specs.declared.options.Options.{Options}
 use Rattle.esb_core.specs.Kept.{state_of, load}
 use Rattle.esb_core.specs.Known.{Known}
@@ -24,11 +24,12 @@ begun-state c =
     same-state
     (ap (λ (k : Known). k.contexts) c.in_ok-make_and_begin.ensures.ok ∙ ap (λ (s : State). s.contexts ++ (c.args.key, c.in_ok-options.options) ∷ []) same
     ∙ ap (λ (o : Options). c.args.self.now.contexts.contexts ++ (c.args.key, o) ∷ []) options)
+    (ap (λ (k : Known). k.retired) c.in_ok-make_and_begin.ensures.ok ∙ ap (λ (s : State). s.retired) same)
     (ap (λ (k : Known). k.active) c.in_ok-make_and_begin.ensures.ok ∙ ap (λ (s : State). s.active ++ (c.args.key, c.next_build-number.result) ∷ []) same
     ∙ ap (λ (n : ℕ). c.args.self.now.contexts.active ++ (c.args.key, n) ∷ []) (c.next_build-number.ensures ∙ ap (λ (s : State). length s.builds) same))
     (c.push_reserved.ensures.items ∙ ap (λ (s : State). s.builds ++ c.in_ok-build.build ∷ []) same ∙ ap (λ (b : Building). c.args.self.now.builds.items ++ b ∷ []) c.in_ok-build.ensures.build
     ∙ sym (joined-last c.args.self.now.builds.items (fresh c.args.key c.in_ok-share.field-0) c.args.id)
-    ∙ ap (λ (o : Options). let bs : List Building = c.args.self.now.builds.items ++ fresh c.args.key o ∷ [] in slice_set bs (length c.args.self.now.builds.items) (joined (build_at bs (length c.args.self.now.builds.items)) c.args.id))
+    ∙ ap (λ (o : Options). let bs : List Building = c.args.self.now.builds.items ++ fresh c.args.key o ∷ [] in slice_set bs (length c.args.self.now.builds.items) (joined (build_at bs (length c.args.self.now.builds.items)) c.args.id true))
     (c.in_ok-share.ensures ∙ options))
     (ap (λ (s : State). s.owed) same) (ap (λ (s : State). s.ended) same)
 
