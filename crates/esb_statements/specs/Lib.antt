@@ -1,0 +1,4 @@
+pub mod Closings
+pub mod Heads
+pub mod Lists
+pub mod Reads
