@@ -6,6 +6,3 @@ mod print;
 
 pub use laws::trees_are_printable;
 pub use print::print_tree;
-
-#[cfg(test)]
-mod tests;
