@@ -32,7 +32,6 @@ empty_list (x ∷ xs) e = cc
 
 -- what holds of the fields of a build that is taken
 record Taken (fields : Fields) : Type 0 where
-  replies : fields.write ≡ false
   alone : fields.plugins ≡ []
   differ : all_differ (map (λ entry. entry.1) fields.entries) ≡ true
   placed : list_all is_placed fields.flags ≡ true
@@ -45,10 +44,8 @@ taken fields is =
     let c = and_parts _ (all_differ (map (λ entry. entry.1) fields.entries)) b.0 in
     let d = and_parts _ (list_all is_plain fields.entries) c.0 in
     let e = and_parts _ (is_folder fields.cwd) d.0 in
-    let f = and_parts (not fields.write) _ e.0 in
     record {
-      replies = not-true fields.write f.0;
-      alone = empty_list fields.plugins (eqb-true _ _ f.1);
+      alone = empty_list fields.plugins (eqb-true _ _ e.0);
       differ = c.1;
       placed = b.1;
     }
@@ -145,7 +142,6 @@ accepted_fields key options request fields has b =
         few = leb-true _ _ b.few;
         differ = IsDistinct-from_test (map (λ entry. entry.1) fields.entries) t.differ;
         absolute = b.absolute;
-        replies = t.replies;
         alone = t.alone;
         folder = folder_there (length fields.entries) fields.flags b.flags t.placed reads;
       },

@@ -1,5 +1,5 @@
 -- What a build that is accepted has.
-use Rattle.std.specs.Prelude.{◌≡◌, ℕ, ◌≤◌, true, false, List, [], length, map, codes, Some, Ok}
+use Rattle.std.specs.Prelude.{◌≡◌, ℕ, ◌≤◌, true, List, [], length, map, codes, Some, Ok}
 use Rattle.std.specs.List.{IsDistinct}
 use Rattle.std.specs.Str.{bytes_eq}
 use Rattle.esb_flags.specs.declared.options.Options.{Options}
@@ -12,7 +12,6 @@ pub record IsAccepted (options : Options) : Type 0 where
   pub few : length options.entries ≤ most_entries
   pub differ : IsDistinct bytes_eq (map (λ entry. entry.1) options.entries)
   pub absolute : is_absolute options.cwd ≡ true
-  pub replies : options.write ≡ false
   pub alone : options.plugins ≡ []
   pub folder : (outdir : List ℕ) × (options.flags.outdir ≡ Some outdir)
 

@@ -60,6 +60,6 @@ is_unsplit word = not (bytes_eq word (front kind.Splitting)) && if_unhashed (beh
 -- ---- a build
 
 unfoldable pub is_built : Fields → Bool
-is_built fields = not fields.write && (length fields.plugins == 0) && is_folder fields.cwd
+is_built fields = (length fields.plugins == 0) && is_folder fields.cwd
     && list_all is_plain fields.entries && all_differ (map (λ entry. entry.1) fields.entries)
     && list_all is_placed fields.flags && list_all is_unsplit fields.flags

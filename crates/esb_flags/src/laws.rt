@@ -10,7 +10,7 @@ ghost use Rattle.esb_flags.specs.Command.{asked};
 ghost use Rattle.esb_flags.specs.Named.{IsMap, SameFields};
 ghost use Rattle.esb_flags.specs.Said.{Says, is_build};
 
-/// A build that is accepted has at most 1,024 entries with different paths and an absolute working folder, replies with its files, asks no plug-in, and has a folder for its outputs.
+/// A build that is accepted has at most 1,024 entries with different paths and an absolute working folder, asks no plug-in, and has a folder for its outputs.
 pub fn accepted_builds()
     ensures { (request : Value) (key : ℕ) (options : Options) → asked request ≡ Ok (command.Build key options) → IsAccepted options }
 {}

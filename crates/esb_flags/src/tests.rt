@@ -58,7 +58,7 @@ const SHAPES: [Row; 7] = [
         "Missing field: entries",
     ),
     ("write", Put::Number(0), "Missing field: write"),
-    ("write", Put::Flag(true), "Not built yet"),
+    ("write", Put::Flag(true), ""),
     ("context", Put::Flag(true), ""),
     ("context", Put::Null, "Missing field: context"),
 ];

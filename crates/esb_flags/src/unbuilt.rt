@@ -133,7 +133,7 @@ fn are_unsplit(words: &[Text]) -> bool
 pub(crate) fn is_built(alloc: Global, fields: &Fields) -> Result<bool, Memory>
     ensures { IfOk result (λ built. built ≡ is_built fields.now) }
 {
-    if fields.write || !fields.plugins.is_empty() || !is_folder(fields.cwd.as_str()) {
+    if !fields.plugins.is_empty() || !is_folder(fields.cwd.as_str()) {
         return Ok(false);
     }
     let entries = fields.entries.as_slice();

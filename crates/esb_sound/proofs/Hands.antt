@@ -65,7 +65,7 @@ self : (n : ℕ) → nat_eq n n ≡ true
 self n = grind (arith)
 
 -- where one build changes, something holds of it and of each other
-set-others : (P : ℕ → Building → Type 0) (bs : List Building) (n : ℕ) (b : Building) → n < length bs → ((k : ℕ) → nat_eq n k ≡ false → P k (build_at bs k)) → P n b → (m : ℕ) → P m (build_at (slice_set bs n b) m)
+pub set-others : (P : ℕ → Building → Type 0) (bs : List Building) (n : ℕ) (b : Building) → n < length bs → ((k : ℕ) → nat_eq n k ≡ false → P k (build_at bs k)) → P n b → (m : ℕ) → P m (build_at (slice_set bs n b) m)
 set-others P bs n b lt others own m = subst (λ (c : Building). P m c) (sym (at-set bs n b m lt)) (by (nat_eq n m) refl)
   where
     by : (t : Bool) → nat_eq n m ≡ t → P m (cond t b (build_at bs m))
@@ -215,24 +215,26 @@ step s before event.Pop reads may handles h = h
 
 -- ---- lists
 
-list_end : {X : Type 0} (xs : List X) → xs ++ [] ≡ xs
+pub list_end : {X : Type 0} (xs : List X) → xs ++ [] ≡ xs
 list_end [] = refl
 list_end (x ∷ xs) = ap (λ ys. x ∷ ys) (list_end xs)
 
-have-from : (s : State) (before more : List Event) → IsRead s before → is_legal_from s more ≡ true → Each-from Handles before more → AllHave (in_hand before) s → AllHave (in_hand (before ++ more)) (replay_from s more)
-have-from s before [] r legal all h = subst (λ (es : List Event). AllHave (in_hand es) s) (sym (list_end before)) h
-have-from s before (e ∷ more) r legal all h =
+-- what holds of the job in hand and the state, step by step
+pub along : (P : Option Job → State → Type 0) → ((s : State) (before : List Event) (e : Event) → IsRead s before → allowed s e ≡ true → Handles before e → P (in_hand before) s → P (doing_after (in_hand before) e) (after s e))
+    → (s : State) (before more : List Event) → IsRead s before → is_legal_from s more ≡ true → Each-from Handles before more → P (in_hand before) s → P (in_hand (before ++ more)) (replay_from s more)
+along P each s before [] r legal all h = subst (λ (es : List Event). P (in_hand es) s) (sym (list_end before)) h
+along P each s before (e ∷ more) r legal all h =
     let parts = both_parts (allowed s e) (is_legal_from (after s e) more) legal in
-    let now = subst (λ (hand : Option Job). AllHave hand (after s e)) (sym (hand-push before e)) (step s before e r.reads.outcomes parts.0 all.0 h) in
-    subst (λ (es : List Event). AllHave (in_hand es) (replay_from (after s e) more)) (append_assoc before (e ∷ []) more)
-    (have-from (after s e) (before ++ e ∷ []) more (reads-step s before e r parts.0) parts.1 all.1 now)
+    let now = subst (λ (hand : Option Job). P hand (after s e)) (sym (hand-push before e)) (each s before e r parts.0 all.0 h) in
+    subst (λ (es : List Event). P (in_hand es) (replay_from (after s e) more)) (append_assoc before (e ∷ []) more)
+    (along P each (after s e) (before ++ e ∷ []) more (reads-step s before e r parts.0) parts.1 all.1 now)
 
 at_start : AllHave None start
 at_start n none = record { claims = refl; linker = refl }
 
 -- ---- where nothing is in hand and nothing is open
 
-no-first : (n : ℕ) (bs : List Building) (k : ℕ) → first_from n bs ≡ None → k < length bs → job_of (n + k) (build_at bs k) ≡ None
+pub no-first : (n : ℕ) (bs : List Building) (k : ℕ) → first_from n bs ≡ None → k < length bs → job_of (n + k) (build_at bs k) ≡ None
 no-first n [] k e lt = absurd (omega arith)
 no-first n (b ∷ bs) k e lt = by (job_of n b) refl e k lt (λ m rest inside. no-first (n + 1) bs m rest inside)
   where
@@ -268,7 +270,7 @@ all-done events legal handled free none n lt =
     let s = replay events in
     let same : length (builds events) ≡ length s.builds = ap length (sym r.begun) ∙ length-map s.builds begun_of in
     let inside : n < length s.builds = omega (arith, same, lt) in
-    let all = free-have s events r.outcomes free (have-from start [] events (read-legal [] refl) legal handled at_start) in
+    let all = free-have s events r.outcomes free (along AllHave (λ u before e q may handles h. step u before e q.reads.outcomes may handles h) start [] events (read-legal [] refl) legal handled at_start) in
     let is = no-job n (build_at s.builds n) (all n) (ap (λ (m : ℕ). job_of m (build_at s.builds n)) (omega arith) ∙ no-first 0 s.builds n none inside) in
     subst (λ (o : Option Outcome). IsSome o) (r.outcomes n) is
 

@@ -7,3 +7,4 @@ pub mod Outcomes
 pub mod Owed
 pub mod Tasks
 pub mod Serial
+pub mod Writers

@@ -32,12 +32,12 @@ each-at : (P : List Event → Event → Type 0) (so_far xs : List Event) (e : Ev
 each-at P so_far [] e more all = subst (λ (es : List Event). P es e) (sym (append-nil so_far)) all.0
 each-at P so_far (x ∷ xs) e more all = subst (λ (es : List Event). P es e) (append_assoc so_far (x ∷ []) xs) (each-at P (so_far ++ x ∷ []) xs e more all.1)
 
-parts-legal : (before : List Event) (e : Event) (more : List Event) → is_legal (before ++ e ∷ more) ≡ true → (is_legal before ≡ true) × (allowed (replay before) e ≡ true)
+pub parts-legal : (before : List Event) (e : Event) (more : List Event) → is_legal (before ++ e ∷ more) ≡ true → (is_legal before ≡ true) × (allowed (replay before) e ≡ true)
 parts-legal before e more legal =
     let parts = both_parts (is_legal before) (is_legal_from (replay before) (e ∷ more)) (sym (is_legal_from-append start before (e ∷ more)) ∙ legal) in
     (parts.0, (both_parts (allowed (replay before) e) _ parts.1).0)
 
-none-is : {X : Type 0} (o : Outcome) → None ≡ Some o → X
+pub none-is : {X : Type 0} (o : Outcome) → None ≡ Some o → X
 none-is o e = settled_is_not o (sym e)
 
 -- what a command settles is canceled

@@ -5,3 +5,4 @@ pub mod Told
 pub mod Ready
 pub mod Serial
 pub mod Ends
+pub mod Files

@@ -8,7 +8,7 @@ ghost use Rattle.esb_core.specs.declared.event.Job.TheVariants as jobs;
 ghost use Rattle.esb_core.specs.declared.event.Role.TheVariants as roles;
 ghost use Rattle.esb_core.specs.declared.out.Out.{Out};
 ghost use Rattle.esb_core.specs.Allowed.{first_job, job_of};
-ghost use Rattle.esb_core.specs.History.{builds, is_legal, outcome, replay};
+ghost use Rattle.esb_core.specs.History.{builds, closed, is_legal, outcome, replay};
 ghost use Rattle.esb_core.specs.State.{build_at};
 ghost use Rattle.esb_scan.specs.Complete.{IsComplete};
 ghost use Rattle.esb_ask.specs.declared.outcome.Outcome.{Outcome};
@@ -38,10 +38,12 @@ pub fn serial_histories_are_one()
     ensures { (world : List Folder) (packets : List Packet) (one other : List Event) → IsSerial world packets one → IsSerial world packets other → one ≡ other }
 {}
 
-/// With one worker, which takes one job at a time, each build is settled where no job is in hand and none is open.
+/// With one worker, which takes one job at a time, each build is settled and closed where no job is in hand and none is open.
 pub fn builds_are_done()
-    ensures { (events : List Event) → is_legal events ≡ true → Each Handles events → doing events ≡ None
+    ensures settled { (events : List Event) → is_legal events ≡ true → Each Handles events → doing events ≡ None
         → first_job (replay events) (roles.Worker 0) ≡ None → (n : ℕ) → n < length (builds events) → IsSome (outcome events n) }
+    ensures closed { (events : List Event) → is_legal events ≡ true → Each Handles events → doing events ≡ None
+        → first_job (replay events) (roles.Worker 0) ≡ None → (n : ℕ) → n < length (builds events) → closed events n ≡ true }
 {}
 
 /// A build whose work is right ends with the files or the messages of the link of its own answers, or was refused memory, or was

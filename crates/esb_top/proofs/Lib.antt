@@ -1,3 +1,4 @@
+pub mod Files
 pub mod Histories
 pub mod InOrder
 pub mod Outputs

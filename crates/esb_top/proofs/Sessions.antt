@@ -9,6 +9,7 @@ use Rattle.esb_core.specs.State.{State, start}
 use Rattle.esb_core.proofs.Laws.{reads-legal}
 use Rattle.esb_core.proofs.Moving.{moves-push}
 use Rattle.esb_sound.proofs.Hands.{in-turn-done}
+use Rattle.esb_sound.proofs.Writers.{in-turn-closed}
 use Rattle.esb_sound.proofs.Outcomes.{ends-right}
 use Rattle.esb_core.proofs.Claims.{both_parts}
 use Rattle.esb_core.proofs.Replays.{is_legal_from-append}
@@ -21,7 +22,8 @@ use Rattle.esb_wire.specs.Stream.{BeginsWithNone}
 use Rattle.esb_wire.specs.Written.{written_frame}
 use Rattle.esb_core.specs.declared.event.Event.{Event}
 use Rattle.esb_core.specs.declared.event.Event.TheVariants as events
-use Rattle.esb_core.specs.History.{Begun, builds, builds_in, is_legal, is_legal_from, moves_in, outcome, outcome_in, owed, replay}
+use Rattle.esb_core.specs.History.{Begun, builds, builds_in, closed, closed_in, is_legal, is_legal_from, moves_in, outcome, outcome_in, owed, replay}
+use Rattle.esb_sound.specs.Files.{Fits, HasPut, failed_puts, fate}
 use Rattle.esb_sound.specs.Sound.{Sound, IsSound}
 use Rattle.esb_sound.specs.Sent.{arrivals, sent, sent_packets}
 use Rattle.esb_sound.specs.Told.{AreTold, IsTold, RoseBy, faults}
@@ -37,11 +39,13 @@ use Rattle.esb_top.specs.Input.{Begins, EndsBy, HasRead, IsAt, IsStopped, arrive
 use Rattle.esb_top.specs.Turn.{IsAtRest}
 use Rattle.esb_top.proofs.InOrder.{next-read}
 use Rattle.esb_top.specs.Output.{IsWritten, Wrote, FailedSince}
+use Rattle.esb_top.specs.Puts.{Puts}
 use Rattle.esb_top.specs.Serving.{Ends, Outside, Refused}
 use Rattle.esb_top.specs.Session.{IsSession, IsCutAt, is_known, is_whole, place_if, place_of, status_by, status_if, status_of}
 use Rattle.esb_top.specs.Work.{Goes}
 use Rattle.esb_top.proofs.Histories.{replay-push, list_end, each-push, all-push, arrivals-push, sent-push, faults-push}
 use Rattle.esb_top.proofs.Outputs.{wrote-part}
+use Rattle.esb_top.proofs.Files.{failed_puts-same, has-same}
 
 -- ---- the end of the input
 
@@ -75,8 +79,10 @@ any-whole ht kt st greeting was now status place journal s = record {
   empty_or_ended = s.empty_or_ended;
   none_owed = s.none_owed;
   settled = s.settled;
+  closed = s.closed;
   unrefused = s.unrefused;
-  puts = s.puts;
+  files = s.files;
+  put_counted = s.put_counted;
   sound = s.sound;
   right = s.right;
   from_host = s.from_host;
@@ -99,7 +105,7 @@ any-whole ht kt st greeting was now status place journal s = record {
 }
 
 module _ (ht kt st : Type 0) (greeting : List ℕ) (was mid : Outside) (old : Entries) (fresh : old.events ≡ []) (same_world : mid.world ≡ was.world) (same_faults : mid.host_faults ≡ was.host_faults) (same_unread : mid.unread ≡ was.unread)
-    (same_source : mid.source_faults ≡ was.source_faults) (same_gave : mid.gave ≡ was.gave) (same_puts : (path : List ℕ) → mid.puts path ≡ was.puts path) (greeted : Wrote kt was.holds mid.holds greeting mid.whole) (failed : FailedSince was.sink_faults mid.sink_faults mid.whole) (falls : was.sink_faults ≤ mid.sink_faults) where
+    (same_source : mid.source_faults ≡ was.source_faults) (same_gave : mid.gave ≡ was.gave) (same_puts : (path : List ℕ) → mid.puts path ≡ was.puts path) (same_put_faults : mid.put_faults ≡ was.put_faults) (greeted : Wrote kt was.holds mid.holds greeting mid.whole) (failed : FailedSince was.sink_faults mid.sink_faults mid.whole) (falls : was.sink_faults ≤ mid.sink_faults) where
   start_sound : Sound old.events
   start_sound = subst (λ (es : List Event). Sound es) (sym fresh) tt
 
@@ -158,6 +164,16 @@ module _ (ht kt st : Type 0) (greeting : List ℕ) (was mid : Outside) (old : En
     start_read : st → was.unread ≡ flat_map frame (arrivals old.events) ++ mid.unread
     start_read t = subst (λ (es : List Event). was.unread ≡ flat_map frame (arrivals es) ++ mid.unread) (sym fresh) (sym same_unread)
 
+    final_files : Puts ht mid.puts now.puts mid.put_faults now.put_faults old.events new.events → ht → HasPut was.puts now.puts final
+    final_files p t =
+        has-same was.puts now.puts new.events final events.EndOfInput is refl
+        (p.files t was.puts (λ path. subst (λ (es : List Event). Fits (fate path es) (was.puts path) (mid.puts path)) (sym fresh) (same_puts path)))
+
+    final_put_counted : Puts ht mid.puts now.puts mid.put_faults now.put_faults old.events new.events → RoseBy (failed_puts final) was.put_faults now.put_faults
+    final_put_counted p =
+        subst (λ (k : ℕ). RoseBy k was.put_faults now.put_faults) (sym (failed_puts-same new.events final events.EndOfInput is refl))
+        (p.counted was.put_faults (subst (λ (es : List Event). RoseBy (failed_puts es) was.put_faults mid.put_faults) (sym fresh) (inl (omega (arith, same_put_faults)))))
+
     pub session-refused : is_legal final ≡ true → Refused ht kt st mid now old new → IsSession ht kt st greeting was now 5 0 final
     session-refused legal r = record {
       known = refl;
@@ -166,8 +182,10 @@ module _ (ht kt st : Type 0) (greeting : List ℕ) (was mid : Outside) (old : En
       empty_or_ended = inr (new.events, is);
       none_owed = λ not_five. absurd (not_five refl);
       settled = λ not_five. absurd (not_five refl);
+      closed = λ not_five. absurd (not_five refl);
       unrefused = λ e. absurd cc;
-      puts = λ t path. r.puts t path ∙ same_puts path;
+      files = final_files r.puts;
+      put_counted = final_put_counted r.puts;
       sound = final_sound;
       right = λ n o ended. ends-right final n o legal final_sound ended;
       from_host = final_told;
@@ -219,9 +237,14 @@ module _ (ht kt st : Type 0) (greeting : List ℕ) (was mid : Outside) (old : En
         subst (λ (o : Option Outcome). IsSome o) (sym (outcome-end n))
         (in-turn-done ht mid.world new.events (legal_before legal) (goes.in_turn start_turn) rest.free rest.no_job n (subst (λ (bs : List Begun). n < length bs) builds-end lt))
 
+    final_closed : is_legal final ≡ true → IsAtRest new.events → (n : ℕ) → n < length (builds final) → closed final n ≡ true
+    final_closed legal rest n lt =
+        ap (λ (ms : List Move). closed_in ms n) moves-end
+        ∙ in-turn-closed ht mid.world new.events (legal_before legal) (goes.in_turn start_turn) rest.free rest.no_job n (subst (λ (bs : List Begun). n < length bs) builds-end lt)
+
     -- a session whose input was read to an ending
     made : (status place reads : ℕ) (held : List ℕ) → is_known status ≡ true → is_legal final ≡ true → IsAtRest new.events → HasRead mid.gave now.gave 0 reads
-        → (ht → (path : List ℕ) → now.puts path ≡ mid.puts path) → (st → was.unread ≡ flat_map frame (arrivals new.events) ++ (held ++ now.unread))
+        → Puts ht mid.puts now.puts mid.put_faults now.put_faults old.events new.events → (st → was.unread ≡ flat_map frame (arrivals new.events) ++ (held ++ now.unread))
         → ((status ≡ 5 → ⊥) → IsStopped st was.unread final now.unread reads status) → (kt → IsWritten was.holds now.holds (greeting ++ sent final) (is_whole status))
         → (status ≡ 4 → Rose was.sink_faults now.sink_faults) → (status ≡ 3 → Rose was.source_faults now.source_faults) → (status ≡ 2 → st → IsCutAt was.unread final)
         → (status ≡ 0 → st → was.unread ≡ flat_map frame (arrivals final)) → (status ≡ 0 → list_any is_refused final ≡ false) → (status ≡ 6 → reads ≡ budget)
@@ -237,8 +260,10 @@ module _ (ht kt st : Type 0) (greeting : List ℕ) (was mid : Outside) (old : En
       empty_or_ended = inr (new.events, is);
       none_owed = λ not_five. final_owed legal rest;
       settled = λ not_five. final_settled legal rest;
+      closed = λ not_five. final_closed legal rest;
       unrefused = unrefused;
-      puts = λ t path. puts t path ∙ same_puts path;
+      files = final_files puts;
+      put_counted = final_put_counted puts;
       sound = final_sound;
       right = λ n o ended. ends-right final n o legal final_sound ended;
       from_host = final_told;
@@ -258,7 +283,7 @@ module _ (ht kt st : Type 0) (greeting : List ℕ) (was mid : Outside) (old : En
     }
 
     by_ending : (ending : Ending) (refused : Bool) (held : List ℕ) (reads : ℕ) → refused ≡ list_any is_refused final → is_legal final ≡ true → IsAtRest new.events
-        → HasRead mid.gave now.gave 0 reads → (ht → (path : List ℕ) → now.puts path ≡ mid.puts path) → (kt → IsWritten was.holds now.holds (greeting ++ sent new.events) true)
+        → HasRead mid.gave now.gave 0 reads → Puts ht mid.puts now.puts mid.put_faults now.put_faults old.events new.events → (kt → IsWritten was.holds now.holds (greeting ++ sent new.events) true)
         → (st → was.unread ≡ flat_map frame (arrivals new.events) ++ (held ++ now.unread)) → EndsBy st (Rose mid.source_faults now.source_faults) (held ++ now.unread) held reads ending
         → IsAt (arrived_bytes new.events) ending → IsSession ht kt st greeting was now (status_by ending refused) (place_if true ending) final
     by_ending endings.ReadFault refused held reads flag legal rest r puts w read e at =
@@ -285,7 +310,7 @@ module _ (ht kt st : Type 0) (greeting : List ℕ) (was mid : Outside) (old : En
         (λ t. final_sent true (w t)) (λ x. absurd cc) (λ x. absurd cc) (λ x. absurd cc) (λ x. all_read (held ++ now.unread) read e.0) (λ x. sym flag) (λ x. absurd cc) (λ x. e.1.1) (λ x. absurd cc) (λ x. refl)
 
     if_whole : (whole : Bool) (ending : Ending) (refused : Bool) (held : List ℕ) (reads : ℕ) → refused ≡ list_any is_refused final → is_legal final ≡ true → IsAtRest new.events
-        → HasRead mid.gave now.gave 0 reads → (ht → (path : List ℕ) → now.puts path ≡ mid.puts path) → FailedSince was.sink_faults now.sink_faults whole
+        → HasRead mid.gave now.gave 0 reads → Puts ht mid.puts now.puts mid.put_faults now.put_faults old.events new.events → FailedSince was.sink_faults now.sink_faults whole
         → (kt → IsWritten was.holds now.holds (greeting ++ sent new.events) whole) → (st → was.unread ≡ flat_map frame (arrivals new.events) ++ (held ++ now.unread))
         → EndsBy st (Rose mid.source_faults now.source_faults) (held ++ now.unread) held reads ending → IsAt (arrived_bytes new.events) ending
         → IsSession ht kt st greeting was now (status_if whole ending refused) (place_if whole ending) final
@@ -316,8 +341,10 @@ session-none ht kt st greeting was journal none = subst (λ (es : List Event). I
   empty_or_ended = inl refl;
   none_owed = λ not_five. absurd (not_five refl);
   settled = λ not_five. absurd (not_five refl);
+  closed = λ not_five. absurd (not_five refl);
   unrefused = λ e. absurd cc;
-  puts = λ t path. refl;
+  files = λ t path. refl;
+  put_counted = inl (omega arith);
   sound = tt;
   right = λ n o ended. absurd (let h : None ≡ Some o = ended in let f : ⊥ = cc in f);
   from_host = λ t. tt;

@@ -23,8 +23,10 @@ use Rattle.esb_top.specs.declared.session.Ending.TheVariants as endings
 use Rattle.esb_top.specs.Input.{ArrivesOne, EndsBy, HasRead}
 use Rattle.esb_top.specs.Output.{PopsOne, Wrote}
 use Rattle.esb_top.specs.Entries.{Entries}
+use Rattle.esb_top.specs.Puts.{Puts}
 use Rattle.esb_top.specs.Serving.{Outside, Refused, Serving}
 use Rattle.esb_top.specs.Work.{Goes, Worked}
+use Rattle.esb_top.proofs.Files.{puts-refl, puts-trans}
 use Rattle.esb_top.proofs.Histories.{list_end, each-push, all-push, arrivals-push, sent-push, faults-push, replay-push, all_moved-ended}
 
 module _ (tells : Type 0) (world : List Folder) where
@@ -119,14 +121,14 @@ pub record RefusedNow (ht kt : Type 0) (was now : Outside) (old new : Entries) :
   pub sink_falls : was.sink_faults ≤ now.sink_faults
   pub source_falls : was.source_faults ≤ now.source_faults
   pub arrived : arrivals new.events ≡ arrivals old.events
-  pub puts : ht → (path : List ℕ) → now.puts path ≡ was.puts path
+  pub puts : Puts ht was.puts now.puts was.put_faults now.put_faults old.events new.events
 
 module _ (ht kt st : Type 0) where
   pub serving-refl : (was : Outside) (old : Entries) → Serving ht kt st was was old old
   serving-refl was old = record {
     goes = goes-refl ht was.world was.host_faults old.events;
     world = λ t. refl;
-    puts = λ t path. refl;
+    puts = puts-refl ht was.puts was.put_faults old.events;
     room = omega arith;
     wrote = λ before front w. w;
     failed = λ start le f. f;
@@ -148,7 +150,7 @@ module _ (ht kt st : Type 0) where
   serving-trans was mid now old between new v w = record {
     goes = goes-trans ht was.world was.host_faults mid.host_faults now.host_faults old.events between.events new.events v.goes (along was.world mid.world mid.host_faults now.host_faults between.events new.events v.world w.goes);
     world = λ t. w.world t ∙ v.world t;
-    puts = λ t path. w.puts t path ∙ v.puts t path;
+    puts = puts-trans ht was.puts mid.puts now.puts was.put_faults mid.put_faults now.put_faults old.events between.events new.events v.puts w.puts;
     room = let a = v.room in let b = w.room in omega arith;
     wrote = λ before front h. w.wrote before front (v.wrote before front h);
     failed = λ start le f. w.failed start (let a = v.sink_falls in omega (arith, le)) (v.failed start le f);
@@ -160,7 +162,7 @@ module _ (ht kt st : Type 0) where
   pub refused-trans : (was mid now : Outside) (old between new : Entries) (reads_old reads_new : ℕ) → Serving ht kt st was mid old between → HasRead was.gave mid.gave 0 reads_old → HasRead mid.gave now.gave reads_old reads_new
       → RefusedNow ht kt mid now between new → Refused ht kt st was now old new
   refused-trans was mid now old between new reads_old reads_new v r r' w = record {
-    puts = λ t path. w.puts t path ∙ v.puts t path;
+    puts = puts-trans ht was.puts mid.puts now.puts was.put_faults mid.put_faults now.put_faults old.events between.events new.events v.puts w.puts;
     stream = λ all r t. record { rest = mid.unread; parts = v.stream all r t ∙ ap (λ (ps : List Packet). flat_map frame ps ++ mid.unread) (sym w.arrived) };
     reads = reads_new;
     read = read-trans was.gave mid.gave now.gave 0 reads_old reads_new r r';

@@ -1,4 +1,7 @@
 -- What each event of the work leaves.
+use Rattle.std.proofs.Common.{Result, Ok, Err}
+use Rattle.std.specs.Prelude.{OnOk, OnErr, count_by}
+use Rattle.esb_base.specs.declared.memory.Memory.{Memory}
 use Rattle.std.proofs.Common.{◌≡◌, ◌⊎◌, ℕ, ◌+◌, ◌<◌, ◌≤◌, Bool, true, false, ◌&&◌, List, [], ◌∷◌, ◌++◌, length, Option, None, Some, inl, inr, refl, sym, ap, subst, ◌∙◌, arith, nat_eq, ◌||◌, slice_set, length-set}
 use Rattle.std.specs.List.{list_any}
 use Rattle.std.proofs.lemmas.List.{get_or-set_same}
@@ -27,22 +30,27 @@ use Rattle.esb_core.specs.Sizes.{is_overfull, too_large}
 use Rattle.esb_core.specs.Moves.{added_or, ended, keep, kept_unless}
 use Rattle.esb_core.specs.Steps.{after, moved, all_moved, moves, standing, answered, ended_by, closed_by, is_claim, task_claimed, link_claimed, write_claimed}
 use Rattle.esb_core.specs.Allowed.{allowed, has_task, has_begun, has_claim, is_linker, is_writer, may_fail, first_job, first_from, job_of, names_job, same_job}
-use Rattle.esb_core.specs.History.{Begun, build, table, is_legal, moves_in, replay}
+use Rattle.esb_core.specs.History.{Begun, build, outcome, table, is_legal, moves_in, replay}
 use Rattle.esb_core.proofs.Readings.{begun_of, build-read}
 use Rattle.esb_core.proofs.Laws.{reads-legal}
 use Rattle.esb_scan.specs.declared.run.Run.TheVariants as runs
 use Rattle.esb_scan.specs.Run.{run, trail}
 use Rattle.esb_scan.proofs.Runs.{asks_new, run_fits}
 use Rattle.esb_sound.specs.Serial.{IsInTurn, doing, doing_after, in_hand}
+use Rattle.esb_ask.specs.declared.outcome.Failures.{Failures}
 use Rattle.esb_ask.specs.declared.outcome.Failures.TheVariants as failures
+use Rattle.esb_ask.specs.declared.outcome.OutFile.{OutFile}
 use Rattle.esb_sound.proofs.Doing.{doing-hand, writes}
 use Rattle.esb_sound.specs.Sound.{IsLinked}
-use Rattle.esb_sound.specs.Told.{is_fault}
-use Rattle.esb_top.specs.Entries.{Entries, AddedWithin}
+use Rattle.esb_sound.specs.Files.{ArePut, is_failed, listed}
+use Rattle.esb_sound.specs.Told.{RoseBy, is_fault}
+use Rattle.esb_top.specs.Entries.{Entries, Added, AddedWithin, Kept}
+use Rattle.esb_top.specs.Puts.{Files, Puts}
 use Rattle.esb_top.specs.Work.{Worked, AtWork, AtLink, AtWriting, Answered, IsGoing, Linked}
 use Rattle.esb_scan.specs.Complete.{IsComplete}
 use Rattle.esb_top.specs.Turn.{IsFree}
 use Rattle.esb_top.proofs.InOrder.{claim-in_turn, deliver-in_turn, going-by, over-by, record-in_turn, refusal-in_turn, settle-in_turn, written-in_turn}
+use Rattle.esb_top.proofs.Files.{put-all, puts-kept, puts-push, puts-trans, puts-written}
 use Rattle.esb_top.proofs.Histories.{IsOfWork, all_moved-ended, replay-push, worked-push, worked-trans}
 
 -- ---- the direct answers about a legal list
@@ -324,24 +332,66 @@ at-write es new n is e =
       claimed = ap (λ (c : Building). c.writer) here;
     }
 
-pub may-write-all : (s : State) (n : ℕ) → AtWriting s n → allowed s (event.Written 0 n failures.All) ≡ true
-may-write-all s n at =
-    both (has_begun s n) (is_writer (build_at s.builds n).writer 0 && may_fail (build_at s.builds n).outcome failures.All) (begun-is s n at.begun)
-    (both (is_writer (build_at s.builds n).writer 0) (may_fail (build_at s.builds n).outcome failures.All) (ap (λ (w : Option ℕ). is_writer w 0) at.claimed)
-    (ap (λ (o : Option Outcome). may_fail o failures.All) at.outcome))
+pub may-write : (s : State) (n : ℕ) (f : Failures) → AtWriting s n → may_fail (build_at s.builds n).outcome f ≡ true → allowed s (event.Written 0 n f) ≡ true
+may-write s n f at may =
+    both (has_begun s n) (is_writer (build_at s.builds n).writer 0 && may_fail (build_at s.builds n).outcome f) (begun-is s n at.begun)
+    (both (is_writer (build_at s.builds n).writer 0) (may_fail (build_at s.builds n).outcome f) (ap (λ (w : Option ℕ). is_writer w 0) at.claimed) may)
 
-pub all-added : (old new : Entries) (n : ℕ) → AddedWithin old new (event.Written 0 n failures.All) ⊎ AddedWithin old new (event.Written 0 n failures.All) → new.events ≡ old.events ++ event.Written 0 n failures.All ∷ []
-all-added old new n (inl added) = added.events
-all-added old new n (inr added) = added.events
+pub may-miss-all : (s : State) (n : ℕ) → AtWriting s n → may_fail (build_at s.builds n).outcome failures.All ≡ true
+may-miss-all s n at = ap (λ (o : Option Outcome). may_fail o failures.All) at.outcome
 
-pub all-room : (old new : Entries) (n : ℕ) → AddedWithin old new (event.Written 0 n failures.All) ⊎ AddedWithin old new (event.Written 0 n failures.All) → old.promised ≤ new.promised + 1
-all-room old new n (inl added) = let room = added.room in omega arith
-all-room old new n (inr added) = let room = added.room in omega arith
+-- the writing that was claimed is in hand
+pub write-in_hand : (es new : List Event) (n : ℕ) → new ≡ es ++ event.Claim (role.Worker 0) (job.Write n) ∷ [] → doing new ≡ Some (job.Write n)
+write-in_hand es new n is = ap doing is ∙ writes es (event.Claim (role.Worker 0) (job.Write n)) n refl
 
-pub written-step : (tells : Type 0) (world : List Folder) (f : ℕ) (es mid new : List Event) (n : ℕ) → IsNextJob es (job.Write n) → mid ≡ es ++ event.Claim (role.Worker 0) (job.Write n) ∷ [] → new ≡ mid ++ event.Written 0 n failures.All ∷ []
-    → Worked tells world f f es new
-written-step tells world f es mid new n may is added =
-    worked-trans tells world f f f es mid new (claimed-step tells world f es mid (job.Write n) may is)
-    (worked-push tells world f f mid new (event.Written 0 n failures.All) added
-    (record { none_arrived = refl; none_sent = λ g. refl; goes_on = λ s. all_moved-ended s (moves s (event.Written 0 n failures.All)) }) (λ h. tt) (λ h. tt)
-    (written-in_turn tells world mid n failures.All (ap doing is ∙ writes es (event.Claim (role.Worker 0) (job.Write n)) n refl)) (λ e. absurd (false≢true e)) (omega arith))
+-- the files of a build were put, but for some
+pub record WrittenBy (old new : Entries) (n : ℕ) : Type 0 where
+  pub failed : Failures
+  pub added : new.events ≡ old.events ++ event.Written 0 n failed ∷ []
+  pub room : old.promised ≤ new.promised + 1
+
+pub written-by : (old new : Entries) (n : ℕ) (f : Failures) → AddedWithin old new (event.Written 0 n f) ⊎ AddedWithin old new (event.Written 0 n failures.All) → WrittenBy old new n
+written-by old new n f (inl added) = let room = added.room in record { failed = f; added = added.events; room = omega arith }
+written-by old new n f (inr added) = let room = added.room in record { failed = failures.All; added = added.events; room = omega arith }
+
+pub written-step : (tells : Type 0) (world : List Folder) (a b : ℕ) (old new : Entries) (n : ℕ) → doing old.events ≡ Some (job.Write n) → WrittenBy old new n → a ≤ b → Worked tells world a b old.events new.events
+written-step tells world a b old new n hand w le =
+    worked-push tells world a b old.events new.events (event.Written 0 n w.failed) w.added
+    (record { none_arrived = refl; none_sent = λ g. refl; goes_on = λ s. all_moved-ended s (moves s (event.Written 0 n w.failed)) }) (λ h. tt) (λ h. tt)
+    (written-in_turn tells world old.events n w.failed hand) (λ e. absurd (false≢true e)) le
+
+outcome-is : (es : List Event) (n : ℕ) (files : List OutFile) → is_legal es ≡ true → (build_at (replay es).builds n).outcome ≡ Some (outcomes.Files files) → outcome es n ≡ Some (outcomes.Files files)
+outcome-is es n files legal is = sym ((reads-legal es legal).outcomes n) ∙ is
+
+rose-none : (times old new : ℕ) → RoseBy times old new → RoseBy 0 old new
+rose-none times old new (inl h) = inl (omega (arith, h))
+rose-none times old new (inr h) = inr h
+
+pub written-puts : (tells : Type 0) (was now : Files) (a b : ℕ) (old new : Entries) (n : ℕ) (f : Failures) → is_legal old.events ≡ true → AtWriting (replay old.events) n
+    → (tells → (files : List OutFile) → (build_at (replay old.events).builds n).outcome ≡ Some (outcomes.Files files) → ArePut files f was now) → RoseBy (count_by is_failed (listed f)) a b
+    → AddedWithin old new (event.Written 0 n f) ⊎ AddedWithin old new (event.Written 0 n failures.All) → Puts tells was now a b old.events new.events
+written-puts tells was now a b old new n f legal at put rise (inl added) =
+    puts-written tells was now a b old.events new.events n at.files f added.events (outcome-is old.events n at.files legal at.outcome) (λ t. put t at.files at.outcome) rise
+written-puts tells was now a b old new n f legal at put rise (inr added) =
+    puts-written tells was now a b old.events new.events n at.files failures.All added.events (outcome-is old.events n at.files legal at.outcome) (λ t. put-all at.files f was now (put t at.files at.outcome))
+    (rose-none (count_by is_failed (listed f)) a b rise)
+
+-- ---- what the other events of the work do to the files of the host
+
+pub answered-puts : (tells : Type 0) (was now : Files) (a b : ℕ) (old new : Entries) (n : ℕ) (q : Question) (answer : Answer) (result : Result Bool Memory) → OnOk result (Added old new (event.Record 0 n q answer)) → OnErr result (Kept old new)
+    → (tells → (path : List ℕ) → now path ≡ was path) → a ≤ b → Puts tells was now a b old.events new.events
+answered-puts tells was now a b old new n q answer (Ok large) added kept same le = puts-push tells was now a b old.events new.events (event.Record 0 n q answer) added.events refl refl same le
+answered-puts tells was now a b old new n q answer (Err refusal) added kept same le = puts-kept tells was now a b old.events new.events kept.events same le
+
+pub delivered-puts : (tells : Type 0) (was now : Files) (a b : ℕ) (es : List Event) (mid new : Entries) (n : ℕ) (t : Task) (p : Product) (result : Result (Unit {0}) Memory) → Puts tells was now a b es mid.events
+    → OnOk result (AddedWithin mid new (event.Deliver 0 n t p)) → OnErr result (new ≡ mid) → Puts tells was now a b es new.events
+delivered-puts tells was now a b es mid new n t p (Ok u) before added kept =
+    puts-trans tells was now now a b b es mid.events new.events before (puts-push tells now now b b mid.events new.events (event.Deliver 0 n t p) added.events refl refl (λ t path. refl) (omega arith))
+delivered-puts tells was now a b es mid new n t p (Err refusal) before added kept = subst (λ (e : Entries). Puts tells was now a b es e.events) (sym kept) before
+
+pub settled-puts : (tells : Type 0) (was now : Files) (a b : ℕ) (es mid new : List Event) (n : ℕ) (o : Outcome) → Puts tells was now a b es mid → new ≡ mid ++ event.Settle 0 n o ∷ [] → Puts tells was now a b es new
+settled-puts tells was now a b es mid new n o before is =
+    puts-trans tells was now now a b b es mid new before (puts-push tells now now b b mid new (event.Settle 0 n o) is refl refl (λ t path. refl) (omega arith))
+
+pub claimed-puts : (tells : Type 0) (was : Files) (a : ℕ) (es new : List Event) (j : Job) → new ≡ es ++ event.Claim (role.Worker 0) j ∷ [] → Puts tells was was a a es new
+claimed-puts tells was a es new j is = puts-push tells was was a a es new (event.Claim (role.Worker 0) j) is refl refl (λ t path. refl) (omega arith)

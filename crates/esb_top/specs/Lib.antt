@@ -4,5 +4,6 @@ pub mod Work
 pub mod Output
 pub mod Input
 pub mod Turn
+pub mod Puts
 pub mod Serving
 pub mod Session

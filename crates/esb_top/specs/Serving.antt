@@ -1,5 +1,5 @@
 -- A session on one thread, from its begin.
-use Rattle.std.specs.Prelude.{◌≡◌, ℕ, ◌≤◌, Bool, false, List, ◌++◌, Option}
+use Rattle.std.specs.Prelude.{◌≡◌, ℕ, ◌≤◌, Bool, false, List, ◌++◌}
 use Rattle.std.specs.List.{flat_map}
 use Rattle.esb_wire.specs.Spelling.{frame}
 use Rattle.esb_base.specs.Faults.{Rose}
@@ -9,6 +9,7 @@ use Rattle.esb_top.specs.declared.session.Ending.{Ending}
 use Rattle.esb_top.specs.Entries.{Entries}
 use Rattle.esb_top.specs.Input.{Begins, EndsBy, HasRead, IsAt, IsRead, arrived_bytes}
 use Rattle.esb_top.specs.Output.{FailedSince, Wrote}
+use Rattle.esb_top.specs.Puts.{Files, Puts}
 use Rattle.esb_top.specs.Turn.{IsAtRest}
 use Rattle.esb_top.specs.Work.{Goes}
 
@@ -16,7 +17,8 @@ use Rattle.esb_top.specs.Work.{Goes}
 pub record Outside : Type 0 where
   pub world : List Folder
   pub host_faults : ℕ
-  pub puts : List ℕ → Option (List ℕ)
+  pub puts : Files
+  pub put_faults : ℕ
   pub holds : List ℕ
   pub sink_faults : ℕ
   pub whole : Bool
@@ -29,7 +31,7 @@ pub record Outside : Type 0 where
 pub record Serving (host_tells sink_tells source_tells : Type 0) (was now : Outside) (old new : Entries) : Type 0 where
   pub goes : Goes host_tells was.world was.host_faults now.host_faults old.events new.events
   pub world : host_tells → now.world ≡ was.world
-  pub puts : host_tells → (path : List ℕ) → now.puts path ≡ was.puts path
+  pub puts : Puts host_tells was.puts now.puts was.put_faults now.put_faults old.events new.events
   pub room : old.promised ≤ new.promised
   pub wrote : (before front : List ℕ) → Wrote sink_tells before was.holds (front ++ sent old.events) was.whole → Wrote sink_tells before now.holds (front ++ sent new.events) now.whole
   pub failed : (start : ℕ) → start ≤ was.sink_faults → FailedSince start was.sink_faults was.whole → FailedSince start now.sink_faults now.whole
@@ -44,7 +46,7 @@ pub record Refused (host_tells sink_tells source_tells : Type 0) (was now : Outs
   pub wrote : (before front : List ℕ) → Wrote sink_tells before was.holds (front ++ sent old.events) was.whole → Wrote sink_tells before now.holds (front ++ sent new.events) false
   pub sink_falls : was.sink_faults ≤ now.sink_faults
   pub source_falls : was.source_faults ≤ now.source_faults
-  pub puts : host_tells → (path : List ℕ) → now.puts path ≡ was.puts path
+  pub puts : Puts host_tells was.puts now.puts was.put_faults now.put_faults old.events new.events
   pub stream : (all : List ℕ) → IsRead source_tells all old.events was.unread → source_tells → Begins all (flat_map frame (arrivals new.events))
   pub reads : ℕ
   pub read : HasRead was.gave now.gave 0 reads

@@ -9,7 +9,8 @@ use Rattle.esb_wire.specs.Budget.{budget}
 use Rattle.esb_ask.specs.declared.outcome.Outcome.{Outcome}
 use Rattle.esb_core.specs.declared.event.Event.{Event}
 use Rattle.esb_core.specs.declared.event.Event.TheVariants as events
-use Rattle.esb_core.specs.History.{builds, is_legal, outcome, owed}
+use Rattle.esb_core.specs.History.{builds, closed as is_closed, is_legal, outcome, owed}
+use Rattle.esb_sound.specs.Files.{HasPut, failed_puts}
 use Rattle.esb_sound.specs.Sound.{Sound}
 use Rattle.esb_sound.specs.Ends.{EndsRight}
 use Rattle.esb_sound.specs.Sent.{arrivals, sent}
@@ -74,11 +75,14 @@ pub record IsSession (host_tells sink_tells source_tells : Type 0) (greeting : L
   -- no packet arrives after the end of the input
   pub ended : (status ≡ 5 → ⊥) → HasEnded journal
   pub empty_or_ended : (journal ≡ []) ⊎ HasEnded journal
-  -- all that was asked for is done: nothing is owed, and each build is settled, where memory was refused as such
+  -- all that was asked for is done: nothing is owed, each build is settled, where memory was refused as such, and each is closed, once its files were put
   pub none_owed : (status ≡ 5 → ⊥) → owed journal ≡ []
   pub settled : (status ≡ 5 → ⊥) → (n : ℕ) → n < length (builds journal) → IsSome (outcome journal n)
+  pub closed : (status ≡ 5 → ⊥) → (n : ℕ) → n < length (builds journal) → is_closed journal n ≡ true
   pub unrefused : status ≡ 0 → list_any is_refused journal ≡ false
-  pub puts : host_tells → (path : List ℕ) → now.puts path ≡ was.puts path
+  -- the host has what it had, with the files of the builds that put theirs: at a path where one failed there may be any bytes, and it counted each put that it failed
+  pub files : host_tells → HasPut was.puts now.puts journal
+  pub put_counted : RoseBy (failed_puts journal) was.put_faults now.put_faults
   pub sound : Sound journal
   -- each build ended by the link of its own answers, or for want of memory, by a cancel, or because it would be too large
   pub right : (n : ℕ) (o : Outcome) → outcome journal n ≡ Some o → EndsRight journal n o

@@ -3,6 +3,7 @@
 
 mod history;
 mod output;
+mod puts;
 mod run;
 mod session;
 mod words;

@@ -119,8 +119,8 @@ fn converse<S: Source, K: Sink, H: Host>(
 ) -> Session
     requires { length text.now ≤ 2 ^ 28 }
     ensures { IsSession H.tells K.tells S.tells (counted text.now)
-        (record { world = H.world host.old; host_faults = H.faults host.old; puts = H.put_at host.old; holds = K.holds sink.old; sink_faults = K.faults sink.old; whole = true; unread = S.left source.old; source_faults = S.faults source.old; gave = S.gave source.old })
-        (record { world = H.world host.new; host_faults = H.faults host.new; puts = H.put_at host.new; holds = K.holds sink.new; sink_faults = K.faults sink.new; whole = true; unread = S.left source.new; source_faults = S.faults source.new; gave = S.gave source.new })
+        (record { world = H.world host.old; host_faults = H.faults host.old; puts = H.put_at host.old; put_faults = H.put_faults host.old; holds = K.holds sink.old; sink_faults = K.faults sink.old; whole = true; unread = S.left source.old; source_faults = S.faults source.old; gave = S.gave source.old })
+        (record { world = H.world host.new; host_faults = H.faults host.new; puts = H.put_at host.new; put_faults = H.put_faults host.new; holds = K.holds sink.new; sink_faults = K.faults sink.new; whole = true; unread = S.left source.new; source_faults = S.faults source.new; gave = S.gave source.new })
         result.status result.place result.journal.events }
 {
     let Ok(mut history) = History::new(alloc) else {
@@ -152,8 +152,8 @@ pub fn run_serial<S: Source, K: Sink, H: Host>(
     ensures bad_line { (place : ℕ) → bad_place words.now ≡ Some place → IsPut K.tells (K.holds sink.old) (K.holds sink.new) (K.faults sink.old) (K.faults sink.new) (bad_word_line place) }
     ensures bad_rest { (place : ℕ) → bad_place words.now ≡ Some place → (source.new ≡ source.old) × (host.new ≡ host.old) }
     ensures session { bad_place words.now ≡ None → IsSession H.tells K.tells S.tells (greeting words.now)
-        (record { world = H.world host.old; host_faults = H.faults host.old; puts = H.put_at host.old; holds = K.holds sink.old; sink_faults = K.faults sink.old; whole = true; unread = S.left source.old; source_faults = S.faults source.old; gave = S.gave source.old })
-        (record { world = H.world host.new; host_faults = H.faults host.new; puts = H.put_at host.new; holds = K.holds sink.new; sink_faults = K.faults sink.new; whole = true; unread = S.left source.new; source_faults = S.faults source.new; gave = S.gave source.new })
+        (record { world = H.world host.old; host_faults = H.faults host.old; puts = H.put_at host.old; put_faults = H.put_faults host.old; holds = K.holds sink.old; sink_faults = K.faults sink.old; whole = true; unread = S.left source.old; source_faults = S.faults source.old; gave = S.gave source.old })
+        (record { world = H.world host.new; host_faults = H.faults host.new; puts = H.put_at host.new; put_faults = H.put_faults host.new; holds = K.holds sink.new; sink_faults = K.faults sink.new; whole = true; unread = S.left source.new; source_faults = S.faults source.new; gave = S.gave source.new })
         result.status result.place result.journal.events }
 {
     match read_words(words) {

@@ -8,6 +8,7 @@ ghost use Rattle.esb_sound.specs.Sound.{Sound};
 ghost use Rattle.esb_sound.specs.Sent.{arrivals, sent};
 ghost use Rattle.esb_top.specs.Output.{FailedSince, PopsOne, Wrote};
 ghost use Rattle.esb_top.specs.Input.{ArrivesOne, EndsBy, HasRead, IsAt, IsRead, arrived_bytes};
+ghost use Rattle.esb_top.specs.Puts.{Puts};
 ghost use Rattle.esb_top.specs.Serving.{Ends, Refused};
 ghost use Rattle.esb_top.specs.Turn.{IsAtRest, IsFree, TurnsOne};
 ghost use Rattle.esb_top.specs.Work.{Goes, Worked};
@@ -57,7 +58,7 @@ fn work_first<H: Host>(alloc: Global, history: &mut History, host: &mut H) -> Re
     ensures worked { Worked H.tells (H.world host.old) (H.faults host.old) (H.faults host.new) history.old.events history.new.events }
     ensures room { history.old.promised ≤ history.new.promised }
     ensures world { H.tells → H.world host.new ≡ H.world host.old }
-    ensures puts { H.tells → (path : Listed ℕ) → H.put_at host.new path ≡ H.put_at host.old path }
+    ensures puts { Puts H.tells (H.put_at host.old) (H.put_at host.new) (H.put_faults host.old) (H.put_faults host.new) history.old.events history.new.events }
     ensures never_falls { H.faults host.old ≤ H.faults host.new }
     ensures free { IsFree history.new.events }
     ensures rests { IfOk result (λ some. some ≡ false → IsAtRest history.new.events) }
@@ -136,7 +137,7 @@ fn turn<S: Source, K: Sink, H: Host>(
     ensures going { IfOk result (λ ending. ending ≡ None → reader.new.stopped ≡ None) }
     ensures room { history.old.promised ≤ history.new.promised }
     ensures world { H.tells → H.world host.new ≡ H.world host.old }
-    ensures puts { H.tells → (path : Listed ℕ) → H.put_at host.new path ≡ H.put_at host.old path }
+    ensures puts { Puts H.tells (H.put_at host.old) (H.put_at host.new) (H.put_faults host.old) (H.put_faults host.new) history.old.events history.new.events }
     ensures wrote { IfOk result (λ ending. (before front : Listed ℕ) → Wrote K.tells before (K.holds sink.old) (front ++ sent history.old.events) whole.old
         → Wrote K.tells before (K.holds sink.new) (front ++ sent history.new.events) whole.new) }
     ensures wrote_part { OnErr result ((before front : Listed ℕ) → Wrote K.tells before (K.holds sink.old) (front ++ sent history.old.events) whole.old
@@ -177,12 +178,12 @@ pub(crate) fn serve<S: Source, K: Sink, H: Host>(
     requires free { IsFree history.old.events }
     requires fresh { arrived_bytes history.old.events ≡ 0 }
     ensures ok { IfOk result (λ ending. Ends H.tells K.tells S.tells
-        (record { world = H.world host.old; host_faults = H.faults host.old; puts = H.put_at host.old; holds = K.holds sink.old; sink_faults = K.faults sink.old; whole = whole.old; unread = S.left source.old; source_faults = S.faults source.old; gave = S.gave source.old })
-        (record { world = H.world host.new; host_faults = H.faults host.new; puts = H.put_at host.new; holds = K.holds sink.new; sink_faults = K.faults sink.new; whole = whole.new; unread = S.left source.new; source_faults = S.faults source.new; gave = S.gave source.new })
+        (record { world = H.world host.old; host_faults = H.faults host.old; puts = H.put_at host.old; put_faults = H.put_faults host.old; holds = K.holds sink.old; sink_faults = K.faults sink.old; whole = whole.old; unread = S.left source.old; source_faults = S.faults source.old; gave = S.gave source.old })
+        (record { world = H.world host.new; host_faults = H.faults host.new; puts = H.put_at host.new; put_faults = H.put_faults host.new; holds = K.holds sink.new; sink_faults = K.faults sink.new; whole = whole.new; unread = S.left source.new; source_faults = S.faults source.new; gave = S.gave source.new })
         history.old history.new ending) }
     ensures err { OnErr result (Refused H.tells K.tells S.tells
-        (record { world = H.world host.old; host_faults = H.faults host.old; puts = H.put_at host.old; holds = K.holds sink.old; sink_faults = K.faults sink.old; whole = whole.old; unread = S.left source.old; source_faults = S.faults source.old; gave = S.gave source.old })
-        (record { world = H.world host.new; host_faults = H.faults host.new; puts = H.put_at host.new; holds = K.holds sink.new; sink_faults = K.faults sink.new; whole = whole.new; unread = S.left source.new; source_faults = S.faults source.new; gave = S.gave source.new })
+        (record { world = H.world host.old; host_faults = H.faults host.old; puts = H.put_at host.old; put_faults = H.put_faults host.old; holds = K.holds sink.old; sink_faults = K.faults sink.old; whole = whole.old; unread = S.left source.old; source_faults = S.faults source.old; gave = S.gave source.old })
+        (record { world = H.world host.new; host_faults = H.faults host.new; puts = H.put_at host.new; put_faults = H.put_faults host.new; holds = K.holds sink.new; sink_faults = K.faults sink.new; whole = whole.new; unread = S.left source.new; source_faults = S.faults source.new; gave = S.gave source.new })
         history.old history.new) }
 {
     let mut reader = Reader::new(alloc);

@@ -18,6 +18,10 @@ const FROB_REPLY: &[u8] =
 const BUILD: &[u8] =
     b"\xc8\0\0\0\x08\0\0\0\x06\x07\0\0\0\x0d\0\0\0absWorkingDir\x03\x02\0\0\0/w\x07\0\0\0command\x03\x05\0\0\0build\x07\0\0\0context\x01\0\x07\0\0\0entries\x05\x02\0\0\0\x05\x02\0\0\0\x03\0\0\0\0\x03\x05\0\0\0a.txt\x05\x02\0\0\0\x03\0\0\0\0\x03\x05\0\0\0b.txt\x05\0\0\0flags\x05\x02\0\0\0\x03\x0c\0\0\0--outdir=out\x03\x12\0\0\0--loader:.txt=copy\x03\0\0\0key\x02\x01\0\0\0\x05\0\0\0write\x01\0";
 
+/// A build of `a.txt` and `b.txt` in `/w` that writes its files.
+const WRITE: &[u8] =
+    b"\xc8\0\0\0\0\0\0\0\x06\x07\0\0\0\x0d\0\0\0absWorkingDir\x03\x02\0\0\0/w\x07\0\0\0command\x03\x05\0\0\0build\x07\0\0\0context\x01\0\x07\0\0\0entries\x05\x02\0\0\0\x05\x02\0\0\0\x03\0\0\0\0\x03\x05\0\0\0a.txt\x05\x02\0\0\0\x03\0\0\0\0\x03\x05\0\0\0b.txt\x05\0\0\0flags\x05\x02\0\0\0\x03\x0c\0\0\0--outdir=out\x03\x12\0\0\0--loader:.txt=copy\x03\0\0\0key\x02\x01\0\0\0\x05\0\0\0write\x01\x01";
+
 const BUILD_REPLY: &[u8] =
     b"\x8c\0\0\0\x09\0\0\0\x06\x02\0\0\0\x06\0\0\0errors\x05\0\0\0\0\x0b\0\0\0outputFiles\x05\x02\0\0\0\x06\x02\0\0\0\x08\0\0\0contents\x04\0\0\0\0\x04\0\0\0path\x03\x0c\0\0\0/w/out/a.txt\x06\x02\0\0\0\x08\0\0\0contents\x04\x02\0\0\0\xff\0\x04\0\0\0path\x03\x0c\0\0\0/w/out/b.txt";
 
@@ -63,8 +67,8 @@ fn joined(alloc: Global, parts: &[&[u8]]) -> Result<List<u8>, Fail> {
     Ok(bytes)
 }
 
-/// How a session on these words and frames ended, its place, and what it sent. A read gives at most `most` bytes, and the listed reads
-/// and writes fail.
+/// How a session on these words and frames ended, its place, and what it sent. A read gives at most `most` bytes, and the listed
+/// reads, writes and calls of the host fail.
 fn served(
     alloc: Global,
     contents: Contents,
@@ -73,6 +77,7 @@ fn served(
     most: usize,
     failing_reads: &[u64],
     failing_writes: &[u64],
+    failing_calls: &[u64],
 ) -> Result<(u8, u64, List<u8>), Fail>
     requires { 1 ≤ most }
 {
@@ -84,7 +89,7 @@ fn served(
     let input = Blob::of(alloc, input.as_slice())?;
     let mut source = MemSource::new(input, most, List::of(alloc, failing_reads)?);
     let mut sink = MemSink::new(alloc, 100_000, List::of(alloc, failing_writes)?)?;
-    let mut host = MemHost::new(alloc, world(alloc, contents)?, List::new(alloc));
+    let mut host = MemHost::new(alloc, world(alloc, contents)?, List::of(alloc, failing_calls)?);
     let session = run_serial(alloc, texts.as_slice(), &mut source, &mut sink, &mut host);
     let sent = List::of(alloc, sink.as_slice())?;
     Ok((session.status, session.place, sent))
@@ -107,6 +112,7 @@ fn serves_by(
         &["service", "--serial"],
         input,
         most,
+        &[],
         &[],
         &[],
     )?;
@@ -219,7 +225,7 @@ fn malformed_input(rt: HostRuntime) -> Result<(), Fail> {
 fn faults(rt: HostRuntime) -> Result<(), Fail> {
     let alloc = rt.alloc();
     let words = ["service", "--serial"];
-    let (status, _, sent) = served(alloc, &[Some(EMPTY)], &words, &[FROB], 65_536, &[1], &[])?;
+    let (status, _, sent) = served(alloc, &[Some(EMPTY)], &words, &[FROB], 65_536, &[1], &[], &[])?;
     let replied = joined(alloc, &[GREETING, FROB_REPLY])?;
     assert!(rt; status == 3 && sent.as_slice() == replied.as_slice());
     // the length of the greeting, its text, and each reply are a write
@@ -233,6 +239,7 @@ fn faults(rt: HostRuntime) -> Result<(), Fail> {
             65_536,
             &[],
             &[failing as u64],
+            &[],
         )?;
         assert!(rt; status == 4 && sent.as_slice() == &GREETING[..*end]);
     }
@@ -241,7 +248,7 @@ fn faults(rt: HostRuntime) -> Result<(), Fail> {
 
 /// Whether these words, on one request, end with this status and send these.
 fn words_send(alloc: Global, words: &[&str], status: u8, output: &[&[u8]]) -> Result<bool, Fail> {
-    let (ended, place, sent) = served(alloc, &[Some(EMPTY)], words, &[FROB], 9, &[], &[])?;
+    let (ended, place, sent) = served(alloc, &[Some(EMPTY)], words, &[FROB], 9, &[], &[], &[])?;
     let output = joined(alloc, output)?;
     Ok((ended, place) == (status, 0) && sent.as_slice() == output.as_slice())
 }
@@ -435,5 +442,36 @@ fn flags_of_a_build(rt: HostRuntime) -> Result<(), Fail> {
         ),
     ];
     assert!(rt; answers(rt.alloc(), &[Some(EMPTY)], &talk)?);
+    Ok(())
+}
+
+#[test]
+fn written_files(rt: HostRuntime) -> Result<(), Fail> {
+    // The host is asked for the kind and the contents of both files, by its calls 0 to 3, and then puts both.
+    let rows: [(&[u64], &[u8]); 4] = [
+        // both are put
+        (&[], b",\0\0\0\x01\0\0\0\x06\x02\0\0\0\x06\0\0\0errors\x05\0\0\0\0\x0b\0\0\0outputFiles\x05\0\0\0\0"),
+        // Failed to write /w/out/a.txt
+        (&[4], b"\x92\0\0\0\x01\0\0\0\x06\x02\0\0\0\x06\0\0\0errors\x05\x01\0\0\0\x06\x05\0\0\0\x06\0\0\0column\x02\0\0\0\0\x04\0\0\0file\x03\0\0\0\0\x06\0\0\0length\x02\0\0\0\0\x04\0\0\0line\x02\0\0\0\0\x04\0\0\0text\x03\x1c\0\0\0Failed to write /w/out/a.txt\x0b\0\0\0outputFiles\x05\0\0\0\0"),
+        // Failed to write /w/out/b.txt
+        (&[5], b"\x92\0\0\0\x01\0\0\0\x06\x02\0\0\0\x06\0\0\0errors\x05\x01\0\0\0\x06\x05\0\0\0\x06\0\0\0column\x02\0\0\0\0\x04\0\0\0file\x03\0\0\0\0\x06\0\0\0length\x02\0\0\0\0\x04\0\0\0line\x02\0\0\0\0\x04\0\0\0text\x03\x1c\0\0\0Failed to write /w/out/b.txt\x0b\0\0\0outputFiles\x05\0\0\0\0"),
+        // Failed to write /w/out/a.txt; Failed to write /w/out/b.txt
+        (&[4, 5], b"\xf8\0\0\0\x01\0\0\0\x06\x02\0\0\0\x06\0\0\0errors\x05\x02\0\0\0\x06\x05\0\0\0\x06\0\0\0column\x02\0\0\0\0\x04\0\0\0file\x03\0\0\0\0\x06\0\0\0length\x02\0\0\0\0\x04\0\0\0line\x02\0\0\0\0\x04\0\0\0text\x03\x1c\0\0\0Failed to write /w/out/a.txt\x06\x05\0\0\0\x06\0\0\0column\x02\0\0\0\0\x04\0\0\0file\x03\0\0\0\0\x06\0\0\0length\x02\0\0\0\0\x04\0\0\0line\x02\0\0\0\0\x04\0\0\0text\x03\x1c\0\0\0Failed to write /w/out/b.txt\x0b\0\0\0outputFiles\x05\0\0\0\0"),
+    ];
+    for (failing, reply) in rows {
+        let (status, _, sent) = served(
+            rt.alloc(),
+            &[Some(EMPTY)],
+            &["service", "--serial"],
+            &[WRITE],
+            65_536,
+            &[],
+            &[],
+            failing,
+        )?;
+        let output = joined(rt.alloc(), &[GREETING, reply])?;
+        assert_eq!(rt; status, 0);
+        assert_eq!(rt; sent.as_slice(), output.as_slice());
+    }
     Ok(())
 }

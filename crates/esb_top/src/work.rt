@@ -1,23 +1,27 @@
 //! The work of the one worker on the builds.
-ghost use Rattle.std.specs.Prelude.{◌≡◌, ◌⊎◌, ℕ, ◌+◌, ◌<◌, ◌≤◌, true, None, Some, [], ◌∷◌, ◌++◌, List as Listed, length, IfOk, IfSome, OnOk, OnErr};
+ghost use Rattle.std.specs.Prelude.{◌≡◌, ◌⊎◌, ℕ, ◌+◌, ◌<◌, ◌≤◌, true, None, Some, [], ◌∷◌, ◌++◌, List as Listed, length, count_by, IfOk, IfSome, OnOk, OnErr};
 ghost use Rattle.esb_base.specs.Faults.{Rose};
 ghost use Rattle.esb_ask.specs.Table.{fits};
-ghost use Rattle.esb_core.specs.Allowed.{first_job};
+ghost use Rattle.esb_ask.specs.declared.outcome.Outcome.TheVariants as outcomes;
+ghost use Rattle.esb_core.specs.Allowed.{first_job, may_fail};
 ghost use Rattle.esb_core.specs.declared.event.Event.{Event};
 ghost use Rattle.esb_core.specs.History.{is_legal, replay};
 ghost use Rattle.esb_core.specs.State.{build_at};
 ghost use Rattle.esb_scan.specs.declared.run.Run.TheVariants as runs;
 ghost use Rattle.esb_scan.specs.Run.{run};
 ghost use Rattle.esb_scan.specs.Complete.{IsComplete};
+ghost use Rattle.esb_sound.specs.Files.{ArePut, is_failed, listed};
 ghost use Rattle.esb_sound.specs.Serial.{doing};
 ghost use Rattle.esb_sound.specs.Sound.{IsLinked, Sound};
-ghost use Rattle.esb_sound.specs.Told.{told};
+ghost use Rattle.esb_sound.specs.Told.{RoseBy, told};
 ghost use Rattle.esb_top.specs.Entries.{Kept};
+ghost use Rattle.esb_top.specs.Puts.{Puts};
 ghost use Rattle.esb_top.specs.Turn.{IsFree};
-ghost use Rattle.esb_top.specs.Work.{Answered, AtLink, AtWork, IsGoing, Linked, Worked};
+ghost use Rattle.esb_top.specs.Work.{Answered, AtLink, AtWork, AtWriting, IsGoing, Linked, Worked};
 
 use crate::history::History;
-use esb_ask::{Answer, Failures, Outcome, Product, Question, Table, Task};
+use crate::puts::put_files;
+use esb_ask::{Answer, Failures, OutFile, Outcome, Product, Question, Table, Task};
 use esb_base::{Host, KindAnswer, Memory, ReadAnswer, Shared};
 use esb_core::{Event, Job, Role};
 use esb_flags::Options;
@@ -33,6 +37,7 @@ fn ask<H: Host>(host: &mut H, turn: u32, question: &Question) -> Result<Answer, 
     ensures fault { IfOk result (λ answer. answer ≡ Answer.Fault → Rose (H.faults host.old) (H.faults host.new)) }
     ensures world { H.tells → H.world host.new ≡ H.world host.old }
     ensures puts { H.tells → (path : Listed ℕ) → H.put_at host.new path ≡ H.put_at host.old path }
+    ensures put_never_falls { H.put_faults host.old ≤ H.put_faults host.new }
     ensures never_falls { H.faults host.old ≤ H.faults host.new }
 {
     match question {
@@ -66,7 +71,7 @@ fn answer<H: Host>(
     ensures ok { IfOk result (λ large. Answered H.tells (H.world host.old) (H.faults host.old) (H.faults host.new) history.old history.new build question.now large) }
     ensures err { OnErr result (Kept history.old history.new) }
     ensures world { H.tells → H.world host.new ≡ H.world host.old }
-    ensures puts { H.tells → (path : Listed ℕ) → H.put_at host.new path ≡ H.put_at host.old path }
+    ensures puts { Puts H.tells (H.put_at host.old) (H.put_at host.new) (H.put_faults host.old) (H.put_faults host.new) history.old.events history.new.events }
     ensures never_falls { H.faults host.old ≤ H.faults host.new }
 {
     let answer = ask(host, build, question)?;
@@ -91,7 +96,7 @@ fn product_of<H: Host>(
     ensures worked { Worked H.tells (H.world host.old) (H.faults host.old) (H.faults host.new) history.old.events history.new.events }
     ensures room { history.old.promised ≤ history.new.promised }
     ensures world { H.tells → H.world host.new ≡ H.world host.old }
-    ensures puts { H.tells → (path : Listed ℕ) → H.put_at host.new path ≡ H.put_at host.old path }
+    ensures puts { Puts H.tells (H.put_at host.old) (H.put_at host.new) (H.put_faults host.old) (H.put_faults host.new) history.old.events history.new.events }
     ensures never_falls { H.faults host.old ≤ H.faults host.new }
 {
     history.is_legal();
@@ -128,7 +133,7 @@ fn try_scan<H: Host>(
     ensures room { OnErr result (history.old.promised ≤ history.new.promised) }
     ensures room_after { OnOk result (history.old.promised ≤ history.new.promised + 1) }
     ensures world { H.tells → H.world host.new ≡ H.world host.old }
-    ensures puts { H.tells → (path : Listed ℕ) → H.put_at host.new path ≡ H.put_at host.old path }
+    ensures puts { Puts H.tells (H.put_at host.old) (H.put_at host.new) (H.put_faults host.old) (H.put_faults host.new) history.old.events history.new.events }
     ensures never_falls { H.faults host.old ≤ H.faults host.new }
 {
     let options = history.view(build)?.options;
@@ -167,7 +172,7 @@ fn scan<H: Host>(alloc: Global, history: &mut History, host: &mut H, build: u32,
     ensures worked { Worked H.tells (H.world host.old) (H.faults host.old) (H.faults host.new) history.old.events history.new.events }
     ensures room { history.old.promised ≤ history.new.promised + 1 }
     ensures world { H.tells → H.world host.new ≡ H.world host.old }
-    ensures puts { H.tells → (path : Listed ℕ) → H.put_at host.new path ≡ H.put_at host.old path }
+    ensures puts { Puts H.tells (H.put_at host.old) (H.put_at host.new) (H.put_faults host.old) (H.put_faults host.new) history.old.events history.new.events }
     ensures never_falls { H.faults host.old ≤ H.faults host.new }
 {
     if try_scan(alloc, history, host, build, task).is_ok() {
@@ -215,6 +220,41 @@ fn link_build(alloc: Global, history: &mut History, build: u32)
     history.settle(build, outcome);
 }
 
+/// Puts the files of a build whose writing is claimed, and tells which failed.
+fn put_outcome<H: Host>(alloc: Global, history: &History, host: &mut H, build: u32) -> Failures
+    requires { AtWriting (replay history.now.events) build }
+    ensures may { may_fail (build_at (replay history.now.events).builds build).outcome result ≡ true }
+    ensures puts { H.tells → (files : Listed OutFile) → (build_at (replay history.now.events).builds build).outcome ≡ Some (outcomes.Files files) → ArePut files result (H.put_at host.old) (H.put_at host.new) }
+    ensures counted { RoseBy (count_by is_failed (listed result)) (H.put_faults host.old) (H.put_faults host.new) }
+    ensures world { H.tells → H.world host.new ≡ H.world host.old }
+    ensures never_falls { H.faults host.old ≤ H.faults host.new }
+{
+    let Ok(view) = history.view(build) else {
+        return Failures::All;
+    };
+    match &view.outcome {
+        Some(Outcome::Files(files)) => put_files(alloc, host, files.get().as_slice()),
+        _ => Failures::All,
+    }
+}
+
+/// Puts the files of a build whose writing is claimed, and says so.
+fn write_build<H: Host>(alloc: Global, history: &mut History, host: &mut H, build: u32)
+    requires at { AtWriting (replay history.old.events) build }
+    requires in_hand { doing history.old.events ≡ Some (Job.Write build) }
+    requires room { 0 < history.old.promised }
+    ensures free { IsFree history.new.events }
+    ensures worked { Worked H.tells (H.world host.old) (H.faults host.old) (H.faults host.new) history.old.events history.new.events }
+    ensures room { history.old.promised ≤ history.new.promised + 1 }
+    ensures world { H.tells → H.world host.new ≡ H.world host.old }
+    ensures puts { Puts H.tells (H.put_at host.old) (H.put_at host.new) (H.put_faults host.old) (H.put_faults host.new) history.old.events history.new.events }
+    ensures never_falls { H.faults host.old ≤ H.faults host.new }
+{
+    history.is_legal();
+    let failures = put_outcome(alloc, history, host, build);
+    history.written(build, failures);
+}
+
 /// Does the worker's first open job. It answers `Memory` where memory was refused before the claim.
 pub(crate) fn do_job<H: Host>(
     alloc: Global,
@@ -230,7 +270,7 @@ pub(crate) fn do_job<H: Host>(
     ensures worked { Worked H.tells (H.world host.old) (H.faults host.old) (H.faults host.new) history.old.events history.new.events }
     ensures room { history.old.promised ≤ history.new.promised }
     ensures world { H.tells → H.world host.new ≡ H.world host.old }
-    ensures puts { H.tells → (path : Listed ℕ) → H.put_at host.new path ≡ H.put_at host.old path }
+    ensures puts { Puts H.tells (H.put_at host.old) (H.put_at host.new) (H.put_faults host.old) (H.put_faults host.new) history.old.events history.new.events }
     ensures never_falls { H.faults host.old ≤ H.faults host.new }
 {
     links_are_ready();
@@ -239,8 +279,7 @@ pub(crate) fn do_job<H: Host>(
     match job {
         Job::Scan { build, task } => scan(alloc, history, host, *build, task),
         Job::Link { build } => link_build(alloc, history, *build),
-        // A session puts no files so far: no request is accepted that asks for it.
-        Job::Write { build } => history.written(*build, Failures::All),
+        Job::Write { build } => write_build(alloc, history, host, *build),
     }
     Ok(())
 }

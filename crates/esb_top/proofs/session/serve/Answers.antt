@@ -7,9 +7,9 @@ use Rattle.esb_top.proofs.session.serve.Goals as goal
 
 pub returns-in_err-ended-clause-err : goal.returns-in_err-ended-clause-err
 returns-in_err-ended-clause-err g c =
-    let was : Outside = record { world = g.H.Host.world c.args.host.now; host_faults = g.H.Host.faults c.args.host.now; puts = g.H.Host.put_at c.args.host.now; holds = g.K.Sink.holds c.args.sink.now; sink_faults = g.K.Sink.faults c.args.sink.now; whole = c.args.whole.now; unread = g.S.Source.left c.args.source.now; source_faults = g.S.Source.faults c.args.source.now; gave = g.S.Source.gave c.args.source.now } in
-    let mid : Outside = record { world = g.H.Host.world c.loop.host; host_faults = g.H.Host.faults c.loop.host; puts = g.H.Host.put_at c.loop.host; holds = g.K.Sink.holds c.loop.sink; sink_faults = g.K.Sink.faults c.loop.sink; whole = c.loop.whole; unread = c.loop.reader.held ++ g.S.Source.left c.loop.source; source_faults = g.S.Source.faults c.loop.source; gave = g.S.Source.gave c.loop.source } in
-    let now : Outside = record { world = g.H.Host.world c.turn.new.host; host_faults = g.H.Host.faults c.turn.new.host; puts = g.H.Host.put_at c.turn.new.host; holds = g.K.Sink.holds c.turn.new.sink; sink_faults = g.K.Sink.faults c.turn.new.sink; whole = c.turn.new.whole; unread = g.S.Source.left c.turn.new.source; source_faults = g.S.Source.faults c.turn.new.source; gave = g.S.Source.gave c.turn.new.source } in
+    let was : Outside = record { world = g.H.Host.world c.args.host.now; host_faults = g.H.Host.faults c.args.host.now; puts = g.H.Host.put_at c.args.host.now; put_faults = g.H.Host.put_faults c.args.host.now; holds = g.K.Sink.holds c.args.sink.now; sink_faults = g.K.Sink.faults c.args.sink.now; whole = c.args.whole.now; unread = g.S.Source.left c.args.source.now; source_faults = g.S.Source.faults c.args.source.now; gave = g.S.Source.gave c.args.source.now } in
+    let mid : Outside = record { world = g.H.Host.world c.loop.host; host_faults = g.H.Host.faults c.loop.host; puts = g.H.Host.put_at c.loop.host; put_faults = g.H.Host.put_faults c.loop.host; holds = g.K.Sink.holds c.loop.sink; sink_faults = g.K.Sink.faults c.loop.sink; whole = c.loop.whole; unread = c.loop.reader.held ++ g.S.Source.left c.loop.source; source_faults = g.S.Source.faults c.loop.source; gave = g.S.Source.gave c.loop.source } in
+    let now : Outside = record { world = g.H.Host.world c.turn.new.host; host_faults = g.H.Host.faults c.turn.new.host; puts = g.H.Host.put_at c.turn.new.host; put_faults = g.H.Host.put_faults c.turn.new.host; holds = g.K.Sink.holds c.turn.new.sink; sink_faults = g.K.Sink.faults c.turn.new.sink; whole = c.turn.new.whole; unread = g.S.Source.left c.turn.new.source; source_faults = g.S.Source.faults c.turn.new.source; gave = g.S.Source.gave c.turn.new.source } in
     let last : RefusedNow g.H.Host.tells g.K.Sink.tells mid now c.loop.history c.turn.new.history = record {
       goes = c.turn.ensures.goes;
       room = c.turn.ensures.room;
@@ -24,9 +24,9 @@ returns-in_err-ended-clause-err g c =
 
 pub returns-in-Some-clause-ok : goal.returns-in-Some-clause-ok
 returns-in-Some-clause-ok g c =
-    let was : Outside = record { world = g.H.Host.world c.args.host.now; host_faults = g.H.Host.faults c.args.host.now; puts = g.H.Host.put_at c.args.host.now; holds = g.K.Sink.holds c.args.sink.now; sink_faults = g.K.Sink.faults c.args.sink.now; whole = c.args.whole.now; unread = g.S.Source.left c.args.source.now; source_faults = g.S.Source.faults c.args.source.now; gave = g.S.Source.gave c.args.source.now } in
-    let mid : Outside = record { world = g.H.Host.world c.loop.host; host_faults = g.H.Host.faults c.loop.host; puts = g.H.Host.put_at c.loop.host; holds = g.K.Sink.holds c.loop.sink; sink_faults = g.K.Sink.faults c.loop.sink; whole = c.loop.whole; unread = c.loop.reader.held ++ g.S.Source.left c.loop.source; source_faults = g.S.Source.faults c.loop.source; gave = g.S.Source.gave c.loop.source } in
-    let now : Outside = record { world = g.H.Host.world c.turn.new.host; host_faults = g.H.Host.faults c.turn.new.host; puts = g.H.Host.put_at c.turn.new.host; holds = g.K.Sink.holds c.turn.new.sink; sink_faults = g.K.Sink.faults c.turn.new.sink; whole = c.turn.new.whole; unread = c.turn.new.reader.held ++ g.S.Source.left c.turn.new.source; source_faults = g.S.Source.faults c.turn.new.source; gave = g.S.Source.gave c.turn.new.source } in
+    let was : Outside = record { world = g.H.Host.world c.args.host.now; host_faults = g.H.Host.faults c.args.host.now; puts = g.H.Host.put_at c.args.host.now; put_faults = g.H.Host.put_faults c.args.host.now; holds = g.K.Sink.holds c.args.sink.now; sink_faults = g.K.Sink.faults c.args.sink.now; whole = c.args.whole.now; unread = g.S.Source.left c.args.source.now; source_faults = g.S.Source.faults c.args.source.now; gave = g.S.Source.gave c.args.source.now } in
+    let mid : Outside = record { world = g.H.Host.world c.loop.host; host_faults = g.H.Host.faults c.loop.host; puts = g.H.Host.put_at c.loop.host; put_faults = g.H.Host.put_faults c.loop.host; holds = g.K.Sink.holds c.loop.sink; sink_faults = g.K.Sink.faults c.loop.sink; whole = c.loop.whole; unread = c.loop.reader.held ++ g.S.Source.left c.loop.source; source_faults = g.S.Source.faults c.loop.source; gave = g.S.Source.gave c.loop.source } in
+    let now : Outside = record { world = g.H.Host.world c.turn.new.host; host_faults = g.H.Host.faults c.turn.new.host; puts = g.H.Host.put_at c.turn.new.host; put_faults = g.H.Host.put_faults c.turn.new.host; holds = g.K.Sink.holds c.turn.new.sink; sink_faults = g.K.Sink.faults c.turn.new.sink; whole = c.turn.new.whole; unread = c.turn.new.reader.held ++ g.S.Source.left c.turn.new.source; source_faults = g.S.Source.faults c.turn.new.source; gave = g.S.Source.gave c.turn.new.source } in
     let last : Serving g.H.Host.tells g.K.Sink.tells g.S.Source.tells mid now c.loop.history c.turn.new.history = record {
       goes = c.turn.ensures.goes;
       world = c.turn.ensures.world;
@@ -50,9 +50,9 @@ returns-in-Some-clause-ok g c =
 
 pub loop-preserved : goal.loop-preserved
 loop-preserved g c =
-    let was : Outside = record { world = g.H.Host.world c.args.host.now; host_faults = g.H.Host.faults c.args.host.now; puts = g.H.Host.put_at c.args.host.now; holds = g.K.Sink.holds c.args.sink.now; sink_faults = g.K.Sink.faults c.args.sink.now; whole = c.args.whole.now; unread = g.S.Source.left c.args.source.now; source_faults = g.S.Source.faults c.args.source.now; gave = g.S.Source.gave c.args.source.now } in
-    let mid : Outside = record { world = g.H.Host.world c.loop.host; host_faults = g.H.Host.faults c.loop.host; puts = g.H.Host.put_at c.loop.host; holds = g.K.Sink.holds c.loop.sink; sink_faults = g.K.Sink.faults c.loop.sink; whole = c.loop.whole; unread = c.loop.reader.held ++ g.S.Source.left c.loop.source; source_faults = g.S.Source.faults c.loop.source; gave = g.S.Source.gave c.loop.source } in
-    let now : Outside = record { world = g.H.Host.world c.turn.new.host; host_faults = g.H.Host.faults c.turn.new.host; puts = g.H.Host.put_at c.turn.new.host; holds = g.K.Sink.holds c.turn.new.sink; sink_faults = g.K.Sink.faults c.turn.new.sink; whole = c.turn.new.whole; unread = c.turn.new.reader.held ++ g.S.Source.left c.turn.new.source; source_faults = g.S.Source.faults c.turn.new.source; gave = g.S.Source.gave c.turn.new.source } in
+    let was : Outside = record { world = g.H.Host.world c.args.host.now; host_faults = g.H.Host.faults c.args.host.now; puts = g.H.Host.put_at c.args.host.now; put_faults = g.H.Host.put_faults c.args.host.now; holds = g.K.Sink.holds c.args.sink.now; sink_faults = g.K.Sink.faults c.args.sink.now; whole = c.args.whole.now; unread = g.S.Source.left c.args.source.now; source_faults = g.S.Source.faults c.args.source.now; gave = g.S.Source.gave c.args.source.now } in
+    let mid : Outside = record { world = g.H.Host.world c.loop.host; host_faults = g.H.Host.faults c.loop.host; puts = g.H.Host.put_at c.loop.host; put_faults = g.H.Host.put_faults c.loop.host; holds = g.K.Sink.holds c.loop.sink; sink_faults = g.K.Sink.faults c.loop.sink; whole = c.loop.whole; unread = c.loop.reader.held ++ g.S.Source.left c.loop.source; source_faults = g.S.Source.faults c.loop.source; gave = g.S.Source.gave c.loop.source } in
+    let now : Outside = record { world = g.H.Host.world c.turn.new.host; host_faults = g.H.Host.faults c.turn.new.host; puts = g.H.Host.put_at c.turn.new.host; put_faults = g.H.Host.put_faults c.turn.new.host; holds = g.K.Sink.holds c.turn.new.sink; sink_faults = g.K.Sink.faults c.turn.new.sink; whole = c.turn.new.whole; unread = c.turn.new.reader.held ++ g.S.Source.left c.turn.new.source; source_faults = g.S.Source.faults c.turn.new.source; gave = g.S.Source.gave c.turn.new.source } in
     let last : Serving g.H.Host.tells g.K.Sink.tells g.S.Source.tells mid now c.loop.history c.turn.new.history = record {
       goes = c.turn.ensures.goes;
       world = c.turn.ensures.world;

@@ -7,6 +7,7 @@ use Rattle.esb_top.proofs.Turns.{arrivals-pops, goes-arrives, goes-pops, goes-tr
 use Rattle.esb_core.specs.declared.event.Event.{Event}
 use Rattle.esb_top.proofs.InOrder.{turns-one}
 use Rattle.esb_top.proofs.Outputs.{on_err, on_err-map}
+use Rattle.esb_top.proofs.Files.{puts-arrives, puts-pops, puts-trans}
 use Rattle.esb_top.proofs.session.turn.Goals as goal
 
 pub returns-in_err-send_first-clause-goes : goal.returns-in_err-send_first-clause-goes
@@ -76,3 +77,18 @@ returns-then-branch-clause-placed g c = λ before.
 pub returns-then-branch-2-clause-placed : goal.returns-then-branch-2-clause-placed
 returns-then-branch-2-clause-placed g c = λ before.
     before ∙ ap (λ (ps : List _). length (flat_map frame ps)) (sym (c.work_first.ensures.worked.arrived ∙ arrivals-pops c.args.history.now.events c.send_first.new.history.events c.send_first.ensures.pops))
+
+pub returns-in_err-send_first-clause-puts : goal.returns-in_err-send_first-clause-puts
+returns-in_err-send_first-clause-puts g c = puts-pops g.H.Host.tells (g.H.Host.put_at c.args.host.now) (g.H.Host.put_faults c.args.host.now) c.args.history.now.events c.send_first.new.history.events c.send_first.ensures.pops
+
+pub returns-then-branch-clause-puts : goal.returns-then-branch-clause-puts
+returns-then-branch-clause-puts g c = puts-pops g.H.Host.tells (g.H.Host.put_at c.args.host.now) (g.H.Host.put_faults c.args.host.now) c.args.history.now.events c.send_first.new.history.events c.send_first.ensures.pops
+
+pub returns-in_err-work_first-clause-puts : goal.returns-in_err-work_first-clause-puts
+returns-in_err-work_first-clause-puts g c = puts-trans g.H.Host.tells (g.H.Host.put_at c.args.host.now) (g.H.Host.put_at c.args.host.now) (g.H.Host.put_at c.work_first.new.host) (g.H.Host.put_faults c.args.host.now) (g.H.Host.put_faults c.args.host.now) (g.H.Host.put_faults c.work_first.new.host) c.args.history.now.events c.send_first.new.history.events c.work_first.new.history.events (puts-pops g.H.Host.tells (g.H.Host.put_at c.args.host.now) (g.H.Host.put_faults c.args.host.now) c.args.history.now.events c.send_first.new.history.events c.send_first.ensures.pops) c.work_first.ensures.puts
+
+pub returns-then-branch-2-clause-puts : goal.returns-then-branch-2-clause-puts
+returns-then-branch-2-clause-puts g c = puts-trans g.H.Host.tells (g.H.Host.put_at c.args.host.now) (g.H.Host.put_at c.args.host.now) (g.H.Host.put_at c.work_first.new.host) (g.H.Host.put_faults c.args.host.now) (g.H.Host.put_faults c.args.host.now) (g.H.Host.put_faults c.work_first.new.host) c.args.history.now.events c.send_first.new.history.events c.work_first.new.history.events (puts-pops g.H.Host.tells (g.H.Host.put_at c.args.host.now) (g.H.Host.put_faults c.args.host.now) c.args.history.now.events c.send_first.new.history.events c.send_first.ensures.pops) c.work_first.ensures.puts
+
+pub returns-clause-puts : goal.returns-clause-puts
+returns-clause-puts g c = puts-trans g.H.Host.tells (g.H.Host.put_at c.args.host.now) (g.H.Host.put_at c.work_first.new.host) (g.H.Host.put_at c.work_first.new.host) (g.H.Host.put_faults c.args.host.now) (g.H.Host.put_faults c.work_first.new.host) (g.H.Host.put_faults c.work_first.new.host) c.args.history.now.events c.work_first.new.history.events c.read_next.new.history.events (puts-trans g.H.Host.tells (g.H.Host.put_at c.args.host.now) (g.H.Host.put_at c.args.host.now) (g.H.Host.put_at c.work_first.new.host) (g.H.Host.put_faults c.args.host.now) (g.H.Host.put_faults c.args.host.now) (g.H.Host.put_faults c.work_first.new.host) c.args.history.now.events c.send_first.new.history.events c.work_first.new.history.events (puts-pops g.H.Host.tells (g.H.Host.put_at c.args.host.now) (g.H.Host.put_faults c.args.host.now) c.args.history.now.events c.send_first.new.history.events c.send_first.ensures.pops) c.work_first.ensures.puts) (puts-arrives g.H.Host.tells (g.H.Host.put_at c.work_first.new.host) (g.H.Host.put_faults c.work_first.new.host) c.work_first.new.history.events c.read_next.new.history.events c.read_next.ensures.arrives)

@@ -1,12 +1,12 @@
 use Rattle.std.proofs.Common.{refl, arith}
-use Rattle.esb_ask.specs.declared.outcome.Failures.TheVariants as failures
 use Rattle.esb_core.specs.History.{replay}
 use Rattle.esb_core.specs.declared.event.Job.TheVariants as job
 use Rattle.esb_top.proofs.Histories.{worked-trans}
 use Rattle.esb_core.specs.declared.event.Event.TheVariants as event
 use Rattle.esb_core.specs.declared.event.Role.TheVariants as role
 use Rattle.esb_top.proofs.InOrder.{done-by, going-by}
-use Rattle.esb_top.proofs.Working.{all-added, all-room, at-link, at-scan, at-write, claimed-step, complete-after, link-job, linked-step, may-claim, may-write-all, written-step}
+use Rattle.esb_top.proofs.Files.{puts-kept, puts-trans}
+use Rattle.esb_top.proofs.Working.{at-link, at-scan, at-write, claimed-puts, claimed-step, complete-after, link-job, linked-step, may-claim, settled-puts, write-in_hand}
 use Rattle.esb_top.proofs.work.do_job.Goals as goal
 
 pub claim-requires : goal.claim-requires
@@ -49,25 +49,37 @@ scan-requires-clause-in_hand g c =
 pub returns-in-Link-clause-free : goal.returns-in-Link-clause-free
 returns-in-Link-clause-free g c = done-by c.claim.new.self.events c.link_build.new.history.events (event.Settle 0 c.in-Link.build c.link_build.ensures.outcome) c.link_build.ensures.added refl
 
-pub written-requires-clause-may : goal.written-requires-clause-may
-written-requires-clause-may g c =
-    may-write-all (replay c.claim.new.self.events) c.in-Write.build (at-write c.args.history.now.events c.claim.new.self.events c.in-Write.build (rw c.in-Write.is at c.in_ok-claim.ensures.ok.events) (rw c.in-Write.is at c.requires.first))
+pub write_build-requires-clause-at : goal.write_build-requires-clause-at
+write_build-requires-clause-at g c =
+    at-write c.args.history.now.events c.claim.new.self.events c.in-Write.build (rw c.in-Write.is at c.in_ok-claim.ensures.ok.events) (rw c.in-Write.is at c.requires.first)
 
-pub written-requires-clause-may_all : goal.written-requires-clause-may_all
-written-requires-clause-may_all g c =
-    may-write-all (replay c.claim.new.self.events) c.in-Write.build (at-write c.args.history.now.events c.claim.new.self.events c.in-Write.build (rw c.in-Write.is at c.in_ok-claim.ensures.ok.events) (rw c.in-Write.is at c.requires.first))
+pub write_build-requires-clause-in_hand : goal.write_build-requires-clause-in_hand
+write_build-requires-clause-in_hand g c = write-in_hand c.args.history.now.events c.claim.new.self.events c.in-Write.build (rw c.in-Write.is at c.in_ok-claim.ensures.ok.events)
 
 pub returns-in-Write-clause-worked : goal.returns-in-Write-clause-worked
 returns-in-Write-clause-worked g c =
-    written-step g.H.Host.tells (g.H.Host.world c.args.host.now) (g.H.Host.faults c.args.host.now) c.args.history.now.events c.claim.new.self.events c.written.new.self.events c.in-Write.build
-    (record { legal = c.is_legal.ensures; free = c.requires.free; none_owed = c.requires.none_owed; first = rw c.in-Write.is at c.requires.first }) (rw c.in-Write.is at c.in_ok-claim.ensures.ok.events)
-    (all-added c.claim.new.self c.written.new.self c.in-Write.build c.written.ensures)
+    worked-trans g.H.Host.tells (g.H.Host.world c.args.host.now) (g.H.Host.faults c.args.host.now) (g.H.Host.faults c.args.host.now) (g.H.Host.faults c.write_build.new.host) c.args.history.now.events c.claim.new.self.events c.write_build.new.history.events
+    (claimed-step g.H.Host.tells (g.H.Host.world c.args.host.now) (g.H.Host.faults c.args.host.now) c.args.history.now.events c.claim.new.self.events c.args.job.now
+    (record { legal = c.is_legal.ensures; free = c.requires.free; none_owed = c.requires.none_owed; first = c.requires.first }) c.in_ok-claim.ensures.ok.events) c.write_build.ensures.worked
 
-pub returns-in-Write-clause-free : goal.returns-in-Write-clause-free
-returns-in-Write-clause-free g c =
-    done-by c.claim.new.self.events c.written.new.self.events (event.Written 0 c.in-Write.build failures.All) (all-added c.claim.new.self c.written.new.self c.in-Write.build c.written.ensures) refl
+pub returns-in_err-claim-clause-puts : goal.returns-in_err-claim-clause-puts
+returns-in_err-claim-clause-puts g c =
+    puts-kept g.H.Host.tells (g.H.Host.put_at c.args.host.now) (g.H.Host.put_at c.args.host.now) (g.H.Host.put_faults c.args.host.now) (g.H.Host.put_faults c.args.host.now) c.args.history.now.events c.claim.new.self.events c.in_err-claim.ensures.err.events (λ t path. refl) (omega arith)
 
-pub returns-in-Write-clause-room : goal.returns-in-Write-clause-room
-returns-in-Write-clause-room g c =
-    let left = all-room c.claim.new.self c.written.new.self c.in-Write.build c.written.ensures in
-    omega (arith, left, c.in_ok-claim.ensures.room)
+pub returns-in-Scan-clause-puts : goal.returns-in-Scan-clause-puts
+returns-in-Scan-clause-puts g c =
+    puts-trans g.H.Host.tells (g.H.Host.put_at c.args.host.now) (g.H.Host.put_at c.args.host.now) (g.H.Host.put_at c.scan.new.host) (g.H.Host.put_faults c.args.host.now) (g.H.Host.put_faults c.args.host.now) (g.H.Host.put_faults c.scan.new.host)
+    c.args.history.now.events c.claim.new.self.events c.scan.new.history.events
+    (claimed-puts g.H.Host.tells (g.H.Host.put_at c.args.host.now) (g.H.Host.put_faults c.args.host.now) c.args.history.now.events c.claim.new.self.events c.args.job.now c.in_ok-claim.ensures.ok.events) c.scan.ensures.puts
+
+pub returns-in-Link-clause-puts : goal.returns-in-Link-clause-puts
+returns-in-Link-clause-puts g c =
+    settled-puts g.H.Host.tells (g.H.Host.put_at c.args.host.now) (g.H.Host.put_at c.args.host.now) (g.H.Host.put_faults c.args.host.now) (g.H.Host.put_faults c.args.host.now)
+    c.args.history.now.events c.claim.new.self.events c.link_build.new.history.events c.in-Link.build c.link_build.ensures.outcome
+    (claimed-puts g.H.Host.tells (g.H.Host.put_at c.args.host.now) (g.H.Host.put_faults c.args.host.now) c.args.history.now.events c.claim.new.self.events c.args.job.now c.in_ok-claim.ensures.ok.events) c.link_build.ensures.added
+
+pub returns-in-Write-clause-puts : goal.returns-in-Write-clause-puts
+returns-in-Write-clause-puts g c =
+    puts-trans g.H.Host.tells (g.H.Host.put_at c.args.host.now) (g.H.Host.put_at c.args.host.now) (g.H.Host.put_at c.write_build.new.host) (g.H.Host.put_faults c.args.host.now) (g.H.Host.put_faults c.args.host.now) (g.H.Host.put_faults c.write_build.new.host)
+    c.args.history.now.events c.claim.new.self.events c.write_build.new.history.events
+    (claimed-puts g.H.Host.tells (g.H.Host.put_at c.args.host.now) (g.H.Host.put_faults c.args.host.now) c.args.history.now.events c.claim.new.self.events c.args.job.now c.in_ok-claim.ensures.ok.events) c.write_build.ensures.puts

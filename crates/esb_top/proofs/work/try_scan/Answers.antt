@@ -12,7 +12,7 @@ use Rattle.esb_scan.specs.Run.{run}
 use Rattle.esb_top.specs.Entries.{Entries, AddedWithin}
 use Rattle.esb_top.specs.Work.{IsGoing, Worked}
 use Rattle.esb_top.proofs.Histories.{worked-trans}
-use Rattle.esb_top.proofs.Working.{delivered-step}
+use Rattle.esb_top.proofs.Working.{delivered-puts, delivered-step}
 use Rattle.esb_top.proofs.work.try_scan.Goals as goal
 use Rattle.std.proofs.Common.{ℕ}
 
@@ -28,3 +28,8 @@ pub returns-clause-worked : goal.returns-clause-worked
 returns-clause-worked g c =
     and_delivered g.H.Host.tells (g.H.Host.world c.args.host.now) (g.H.Host.faults c.args.host.now) (g.H.Host.faults c.product_of.new.host) c.args.history.now c.product_of.new.history c.deliver.new.self c.args.build c.args.task.now
     c.in-Some.product c.get.result.now c.deliver.result c.in_ok-product.ensures.worked c.is_legal.ensures (rw c.in-Some.is at c.in_ok-product.ensures.going) (rw c.in-Some.is at c.in_ok-product.ensures.product) c.deliver.ensures.ok c.deliver.ensures.err
+
+pub returns-clause-puts : goal.returns-clause-puts
+returns-clause-puts g c =
+    delivered-puts g.H.Host.tells (g.H.Host.put_at c.args.host.now) (g.H.Host.put_at c.product_of.new.host) (g.H.Host.put_faults c.args.host.now) (g.H.Host.put_faults c.product_of.new.host) c.args.history.now.events c.product_of.new.history c.deliver.new.self c.args.build c.args.task.now c.in-Some.product c.deliver.result
+    c.in_ok-product.ensures.puts c.deliver.ensures.ok c.deliver.ensures.err
