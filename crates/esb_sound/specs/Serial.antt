@@ -15,8 +15,8 @@ use Rattle.esb_core.specs.declared.event.Job.TheVariants as jobs
 use Rattle.esb_core.specs.declared.event.Role.TheVariants as roles
 use Rattle.esb_core.specs.declared.event.Event.{Event}
 use Rattle.esb_core.specs.declared.event.Event.TheVariants as events
-use Rattle.esb_core.specs.Allowed.{first_job}
-use Rattle.esb_core.specs.History.{build, outcome, owed, replay, table}
+use Rattle.esb_core.specs.History.{build, outcome, owed, table}
+use Rattle.esb_core.specs.Work.{open_job}
 use Rattle.esb_scan.specs.declared.run.Run.{Run}
 use Rattle.esb_scan.specs.declared.run.Run.TheVariants as runs
 use Rattle.esb_scan.specs.Run.{run}
@@ -94,7 +94,7 @@ pop_or [] otherwise = otherwise
 
 -- what comes next where no job is in hand
 abbrev pub free_step : List Packet → List Event → Event
-free_step packets before = pop_or (owed before) (claim_or (first_job (replay before) (roles.Worker 0)) (input_step (slice_get packets (length (arrivals before)))))
+free_step packets before = pop_or (owed before) (claim_or (open_job before (roles.Worker 0)) (input_step (slice_get packets (length (arrivals before)))))
 
 abbrev pub step_by : List Folder → List Packet → List Event → Option Job → Option Event
 step_by world packets before (Some job) = work_step world before job

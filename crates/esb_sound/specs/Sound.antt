@@ -10,9 +10,8 @@ use Rattle.esb_ask.specs.declared.outcome.Outcome.TheVariants as outcomes
 use Rattle.esb_ask.specs.Table.{same_question}
 use Rattle.esb_core.specs.declared.event.Event.{Event}
 use Rattle.esb_core.specs.declared.event.Event.TheVariants as events
-use Rattle.esb_core.specs.State.{build_at}
-use Rattle.esb_core.specs.Allowed.{has_task}
-use Rattle.esb_core.specs.History.{build, table, replay}
+use Rattle.esb_core.specs.History.{build, table}
+use Rattle.esb_core.specs.Work.{holds_task}
 use Rattle.esb_scan.specs.declared.run.Run.TheVariants as runs
 use Rattle.esb_scan.specs.Run.{run, trail}
 use Rattle.esb_scan.specs.Complete.{IsComplete}
@@ -22,7 +21,7 @@ use Rattle.esb_sound.specs.Each.{Each}
 -- a worker that has claimed a task asks a question of the task's trail
 pub record IsAsked (before : List Event) (worker n : ℕ) (question : Question) : Type 0 where
   pub task : Task
-  pub claimed : has_task (build_at (replay before).builds n) worker task ≡ true
+  pub claimed : holds_task before worker n task ≡ true
   pub on_trail : list_any (same_question question) (trail (build before n).options (table before n) task) ≡ true
 
 -- the outcome is that of the link over these answers, which are complete; want of memory is free

@@ -22,6 +22,8 @@ use Rattle.esb_core.specs.History.{build, is_legal, outcome, owed, replay, table
 use Rattle.esb_core.specs.State.{build_at}
 use Rattle.esb_core.proofs.Laws.{reads-legal}
 use Rattle.esb_core.proofs.Replays.{stands-push}
+use Rattle.esb_core.proofs.Work.{open-is}
+use Rattle.esb_core.specs.Work.{open_job}
 use Rattle.esb_scan.specs.declared.run.Run.{Run}
 use Rattle.esb_scan.specs.declared.run.Run.TheVariants as runs
 use Rattle.esb_scan.specs.Run.{run}
@@ -80,7 +82,8 @@ module _ (tells : Type 0) (world : List Folder) (es : List Event) where
       → next world packets es ≡ Some (claim_or (first_job (replay es) (role.Worker 0)) (input_step (slice_get packets (length (arrivals es)))))
   next-unowed packets legal free none =
       next-with packets None free
-      ∙ ap (λ (os : List Out). Some (pop_or os (claim_or (first_job (replay es) (role.Worker 0)) (input_step (slice_get packets (length (arrivals es))))))) (sym (reads-legal es legal).owed ∙ none)
+      ∙ ap (λ (os : List Out). Some (pop_or os (claim_or (open_job es (role.Worker 0)) (input_step (slice_get packets (length (arrivals es))))))) (sym (reads-legal es legal).owed ∙ none)
+      ∙ ap (λ (o : Option Job). Some (claim_or o (input_step (slice_get packets (length (arrivals es)))))) (sym (open-is es legal (role.Worker 0)))
 
   pub claim-in_turn : (j : Job) → is_legal es ≡ true → IsFree es → (replay es).owed ≡ [] → first_job (replay es) (role.Worker 0) ≡ Some j → IsInTurn tells world es (event.Claim (role.Worker 0) j)
   claim-in_turn j legal free none first = record {

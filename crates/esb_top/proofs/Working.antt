@@ -32,6 +32,7 @@ use Rattle.esb_core.specs.Steps.{after, moved, all_moved, moves, standing, answe
 use Rattle.esb_core.specs.Allowed.{allowed, has_task, has_begun, has_claim, is_linker, is_writer, may_fail, first_job, first_from, job_of, names_job, same_job}
 use Rattle.esb_core.specs.History.{Begun, build, outcome, table, is_legal, moves_in, replay}
 use Rattle.esb_core.proofs.Readings.{begun_of, build-read}
+use Rattle.esb_core.proofs.Held.{held}
 use Rattle.esb_core.proofs.Laws.{reads-legal}
 use Rattle.esb_scan.specs.declared.run.Run.TheVariants as runs
 use Rattle.esb_scan.specs.Run.{run, trail}
@@ -163,7 +164,7 @@ asked-step tells world fo fn old new n q t options large legal go asks got le =
       worked = worked-push tells world fo fn old.events new.events e got.added.events (record-work n q got.answer)
           (λ h. record {
             task = t;
-            claimed = at.claimed;
+            claimed = sym ((held old.events legal n).tasks 0 t) ∙ at.claimed;
             on_trail = ap (λ (qs : List Question). list_any (same_question q) qs) trail_is ∙ ap (λ b. b || false) (same-refl q);
           })
           got.from_host (record-in_turn tells world old.events n t q got.answer go.in_hand asks_now got.from_host) (λ e. got.fault (fault-is got.answer e)) le;
