@@ -1,5 +1,5 @@
 -- Builds that are settled.
-use Rattle.std.proofs.Common.{◌≡◌, ℕ, ◌<◌, true, false, List, length, Option, None, Some, IsSome, sym, refl, subst, slice_set, arith, length-set}
+use Rattle.std.proofs.Common.{◌≡◌, ℕ, ◌<◌, List, length, Option, None, Some, IsSome, sym, refl, subst, slice_set, arith, length-set}
 use Rattle.std.proofs.lemmas.Bool.{false≢true}
 use Rattle.std.proofs.lemmas.List.{get_or-set_same}
 use Rattle.esb_ask.specs.declared.outcome.Outcome.{Outcome}

@@ -21,7 +21,7 @@ use Rattle.esb_core.specs.declared.event.Job.TheVariants as job
 use Rattle.esb_core.specs.State.{Building, State, build_at, no_build}
 use Rattle.esb_core.specs.Moves.{Move, added_or, opens, opened_unless, ended as ended_moves}
 use Rattle.esb_core.specs.Steps
-use Rattle.esb_core.specs.Sizes.{named, opened, with_task, is_overfull, has_too_many, too_large}
+use Rattle.esb_core.specs.Sizes.{named, opened, with_task, has_too_many, too_large}
 use Rattle.esb_core.specs.Steps.{is_claim, task_claimed, link_claimed, all_moved, joined, answered, tasked, ended_by, closed_by, standing, released}
 use Rattle.esb_core.specs.Allowed.{job_of}
 use Rattle.esb_core.proofs.Claims.{job-fits, both_parts}

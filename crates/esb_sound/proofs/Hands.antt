@@ -1,11 +1,10 @@
 -- With one worker, a build that isn't settled has no claim but that of the job in hand.
 use Rattle.std.proofs.Common.{◌≡◌, ◌⊎◌, inl, inr, append_assoc, ℕ, zero, suc, ◌+◌, ◌<◌, ◌≤◌, Bool, true, false, cond, not, ◌&&◌, List, [], ◌∷◌, ◌++◌, length, Option, None, Some, IsSome, refl, sym, ap, subst, ◌∙◌, arith, nat_eq, slice_get, slice_set}
-use Rattle.std.specs.Prelude.{filter, fold, is_none, is_some}
+use Rattle.std.specs.Prelude.{filter, is_none, is_some}
 use Rattle.std.proofs.lemmas.Bool.{eqb-true, ltb-true}
 use Rattle.std.proofs.lemmas.List.{length-map}
 use Rattle.esb_base.specs.World.{Folder}
 use Rattle.esb_ask.specs.declared.task.Task.{Task}
-use Rattle.esb_ask.specs.declared.product.Product.{Product}
 use Rattle.esb_ask.specs.declared.outcome.Outcome.{Outcome}
 use Rattle.esb_ask.specs.declared.outcome.Outcome.TheVariants as ending
 use Rattle.esb_ask.specs.Tasks.{product_fits}

@@ -1,7 +1,6 @@
 -- A build ends by its link, or is refused memory, canceled, or would be too large.
-use Rattle.std.proofs.Common.{◌≡◌, ◌⊎◌, inl, inr, ℕ, ◌<◌, Bool, true, false, cond, ◌&&◌, List, [], ◌∷◌, ◌++◌, length, Option, None, Some, refl, sym, ap, subst, ◌∙◌, append_assoc, append-nil, nat_eq, eq-eqb, eqb-true}
+use Rattle.std.proofs.Common.{◌≡◌, inl, inr, ℕ, ◌<◌, Bool, true, false, cond, ◌&&◌, List, [], ◌∷◌, ◌++◌, length, Option, None, Some, refl, sym, ap, subst, ◌∙◌, append_assoc, append-nil, nat_eq, eq-eqb, eqb-true}
 use Rattle.std.proofs.lemmas.Bool.{false≢true, ltb-true}
-use Rattle.esb_flags.specs.declared.options.Options.{Options}
 use Rattle.esb_ask.specs.declared.question.Question.{Question}
 use Rattle.esb_ask.specs.declared.answer.Answer.{Answer}
 use Rattle.esb_ask.specs.declared.outcome.Outcome.{Outcome}
@@ -22,7 +21,7 @@ use Rattle.esb_core.proofs.Laws.{reads-legal}
 use Rattle.esb_core.proofs.Pushed.{outcome-pushed, table-pushed}
 use Rattle.esb_core.proofs.Readings.{same-number}
 use Rattle.esb_core.proofs.Replays.{is_legal_from-append}
-use Rattle.esb_sound.specs.Each.{Each, Each-from}
+use Rattle.esb_sound.specs.Each.{Each-from}
 use Rattle.esb_sound.specs.Sound.{IsLinked, IsSound, Sound}
 use Rattle.esb_sound.specs.Ends.{overgrows, IsOvergrown, EndsRight}
 use Rattle.esb_sound.proofs.Builds.{settled_is_not}

@@ -1,10 +1,9 @@
 -- With one worker, each build is closed where no job is in hand and none is open.
-use Rattle.std.proofs.Common.{◌≡◌, ◌⊎◌, inl, inr, append_assoc, ℕ, ◌+◌, ◌<◌, ◌≤◌, Bool, true, false, cond, not, ◌&&◌, ◌||◌, List, [], ◌∷◌, ◌++◌, length, Option, None, Some, IsSome, refl, sym, ap, subst, ◌∙◌, arith, nat_eq, slice_set}
+use Rattle.std.proofs.Common.{◌≡◌, ◌⊎◌, inl, inr, append_assoc, ℕ, ◌<◌, ◌≤◌, Bool, true, false, cond, not, ◌&&◌, ◌||◌, List, [], ◌∷◌, ◌++◌, length, Option, None, Some, IsSome, refl, sym, ap, subst, ◌∙◌, arith, nat_eq}
 use Rattle.std.specs.Prelude.{is_none, is_some}
 use Rattle.std.proofs.lemmas.Bool.{false≢true, eqb-true, eq-eqb, ltb-true}
 use Rattle.std.proofs.lemmas.List.{length-map}
 use Rattle.esb_base.specs.World.{Folder}
-use Rattle.esb_flags.specs.declared.options.Options.{Options}
 use Rattle.esb_flags.specs.declared.command.Command.TheVariants as command_of
 use Rattle.esb_ask.specs.declared.task.Task.{Task}
 use Rattle.esb_ask.specs.declared.outcome.OutFile.{OutFile}
@@ -18,12 +17,12 @@ use Rattle.esb_core.specs.declared.event.Role.{Role}
 use Rattle.esb_core.specs.declared.event.Role.TheVariants as role
 use Rattle.esb_core.specs.declared.event.Event.{Event}
 use Rattle.esb_core.specs.declared.event.Event.TheVariants as event
-use Rattle.esb_core.specs.State.{Building, State, build_at, no_build, start}
-use Rattle.esb_core.specs.Moves.{Move, write, closed as closing}
+use Rattle.esb_core.specs.State.{Building, State, build_at, start}
+use Rattle.esb_core.specs.Moves.{Move}
 use Rattle.esb_core.specs.Steps
 use Rattle.esb_core.specs.Steps.{after, all_moved, moved, moves, standing, fresh, joined, answered, tasked, task_claimed, link_claimed, write_claimed, written_by, closed_by, ended_by, released}
-use Rattle.esb_core.specs.Allowed.{allowed, first_from, first_job, has_begun, has_task, is_writer, job_of, job_unless, may_fail, may_settle, names_job, write_if, writing_of}
-use Rattle.esb_core.specs.History.{Begun, active_build, build, builds, closed, failed, is_legal, is_legal_from, moves_in, outcome, replay, replay_from}
+use Rattle.esb_core.specs.Allowed.{allowed, first_job, has_begun, has_task, job_of, job_unless, may_settle, names_job, write_if, writing_of}
+use Rattle.esb_core.specs.History.{Begun, active_build, build, builds, closed, failed, is_legal, moves_in, outcome, replay}
 use Rattle.esb_core.specs.Laws.{Verdict, accepted, refused, verdict, canceled_if, large_if, closed_by as closed_by_command, closed_if, closes, fails, is_to_write, overfull, overopened, settled_by, settles, IsSettledBy}
 use Rattle.esb_core.proofs.Begins.{build-stays}
 use Rattle.esb_core.proofs.Claims.{both_parts, claim-is, link-is, scan-is, write-is}
@@ -32,10 +31,9 @@ use Rattle.esb_core.proofs.Each.{each-all_moved}
 use Rattle.esb_core.proofs.Ends.{none-settles, settled-earliest}
 use Rattle.esb_core.proofs.Laws.{IsRead, all_moved-longer, read-legal, reads-legal, reads-step}
 use Rattle.esb_core.proofs.Readings.{begun_of, build-read, same-number}
-use Rattle.esb_sound.specs.Each.{Each, Each-from}
-use Rattle.esb_sound.specs.Serial.{Handles, InTurn, build_of, doing, doing_after, going_on, in_hand, unless_over}
-use Rattle.esb_sound.proofs.Builds.{settled_is_not}
-use Rattle.esb_sound.proofs.Doing.{doing-hand, hand-push}
+use Rattle.esb_sound.specs.Each.{Each}
+use Rattle.esb_sound.specs.Serial.{Handles, InTurn, doing, doing_after, going_on, in_hand, unless_over}
+use Rattle.esb_sound.proofs.Doing.{doing-hand}
 use Rattle.esb_sound.proofs.Hands.{all-done, along, in-turn-handled, list_end, no-first, set-others}
 use Rattle.esb_sound.proofs.Outcomes.{none-is, parts-legal}
 

@@ -18,12 +18,12 @@ use Rattle.esb_core.specs.declared.event.Event.{Event}
 use Rattle.esb_core.specs.declared.event.Event.TheVariants as events
 use Rattle.esb_core.specs.History.{outcome}
 use Rattle.esb_core.proofs.Moving.{gathered-push}
-use Rattle.esb_sound.specs.Files.{Fate, untouched, has, unsure, ArePut, Fits, HasPut, contents_at, contents_over, failed_puts, fate, fate_over, is_failed, listed, lists, may_miss, put_over, writing_of, writings, written_over}
+use Rattle.esb_sound.specs.Files.{Fate, untouched, ArePut, Fits, HasPut, contents_at, contents_over, failed_puts, fate, fate_over, is_failed, listed, lists, may_miss, put_over, writing_of, writings, written_over}
 use Rattle.esb_sound.specs.Told.{RoseBy}
 use Rattle.esb_top.specs.Input.{ArrivesOne}
 use Rattle.esb_top.specs.Output.{PopsOne}
 use Rattle.esb_top.specs.Puts.{Files, Puts, PutsOne}
-use Rattle.esb_top.proofs.Histories.{flat_map-push, list_end}
+use Rattle.esb_top.proofs.Histories.{flat_map-push}
 
 -- ---- one event more
 

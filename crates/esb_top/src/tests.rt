@@ -89,7 +89,11 @@ fn served(
     let input = Blob::of(alloc, input.as_slice())?;
     let mut source = MemSource::new(input, most, List::of(alloc, failing_reads)?);
     let mut sink = MemSink::new(alloc, 100_000, List::of(alloc, failing_writes)?)?;
-    let mut host = MemHost::new(alloc, world(alloc, contents)?, List::of(alloc, failing_calls)?);
+    let mut host = MemHost::new(
+        alloc,
+        world(alloc, contents)?,
+        List::of(alloc, failing_calls)?,
+    );
     let session = run_serial(alloc, texts.as_slice(), &mut source, &mut sink, &mut host);
     let sent = List::of(alloc, sink.as_slice())?;
     Ok((session.status, session.place, sent))
@@ -225,7 +229,16 @@ fn malformed_input(rt: HostRuntime) -> Result<(), Fail> {
 fn faults(rt: HostRuntime) -> Result<(), Fail> {
     let alloc = rt.alloc();
     let words = ["service", "--serial"];
-    let (status, _, sent) = served(alloc, &[Some(EMPTY)], &words, &[FROB], 65_536, &[1], &[], &[])?;
+    let (status, _, sent) = served(
+        alloc,
+        &[Some(EMPTY)],
+        &words,
+        &[FROB],
+        65_536,
+        &[1],
+        &[],
+        &[],
+    )?;
     let replied = joined(alloc, &[GREETING, FROB_REPLY])?;
     assert!(rt; status == 3 && sent.as_slice() == replied.as_slice());
     // the length of the greeting, its text, and each reply are a write
@@ -450,13 +463,25 @@ fn written_files(rt: HostRuntime) -> Result<(), Fail> {
     // The host is asked for the kind and the contents of both files, by its calls 0 to 3, and then puts both.
     let rows: [(&[u64], &[u8]); 4] = [
         // both are put
-        (&[], b",\0\0\0\x01\0\0\0\x06\x02\0\0\0\x06\0\0\0errors\x05\0\0\0\0\x0b\0\0\0outputFiles\x05\0\0\0\0"),
+        (
+            &[],
+            b",\0\0\0\x01\0\0\0\x06\x02\0\0\0\x06\0\0\0errors\x05\0\0\0\0\x0b\0\0\0outputFiles\x05\0\0\0\0",
+        ),
         // Failed to write /w/out/a.txt
-        (&[4], b"\x92\0\0\0\x01\0\0\0\x06\x02\0\0\0\x06\0\0\0errors\x05\x01\0\0\0\x06\x05\0\0\0\x06\0\0\0column\x02\0\0\0\0\x04\0\0\0file\x03\0\0\0\0\x06\0\0\0length\x02\0\0\0\0\x04\0\0\0line\x02\0\0\0\0\x04\0\0\0text\x03\x1c\0\0\0Failed to write /w/out/a.txt\x0b\0\0\0outputFiles\x05\0\0\0\0"),
+        (
+            &[4],
+            b"\x92\0\0\0\x01\0\0\0\x06\x02\0\0\0\x06\0\0\0errors\x05\x01\0\0\0\x06\x05\0\0\0\x06\0\0\0column\x02\0\0\0\0\x04\0\0\0file\x03\0\0\0\0\x06\0\0\0length\x02\0\0\0\0\x04\0\0\0line\x02\0\0\0\0\x04\0\0\0text\x03\x1c\0\0\0Failed to write /w/out/a.txt\x0b\0\0\0outputFiles\x05\0\0\0\0",
+        ),
         // Failed to write /w/out/b.txt
-        (&[5], b"\x92\0\0\0\x01\0\0\0\x06\x02\0\0\0\x06\0\0\0errors\x05\x01\0\0\0\x06\x05\0\0\0\x06\0\0\0column\x02\0\0\0\0\x04\0\0\0file\x03\0\0\0\0\x06\0\0\0length\x02\0\0\0\0\x04\0\0\0line\x02\0\0\0\0\x04\0\0\0text\x03\x1c\0\0\0Failed to write /w/out/b.txt\x0b\0\0\0outputFiles\x05\0\0\0\0"),
+        (
+            &[5],
+            b"\x92\0\0\0\x01\0\0\0\x06\x02\0\0\0\x06\0\0\0errors\x05\x01\0\0\0\x06\x05\0\0\0\x06\0\0\0column\x02\0\0\0\0\x04\0\0\0file\x03\0\0\0\0\x06\0\0\0length\x02\0\0\0\0\x04\0\0\0line\x02\0\0\0\0\x04\0\0\0text\x03\x1c\0\0\0Failed to write /w/out/b.txt\x0b\0\0\0outputFiles\x05\0\0\0\0",
+        ),
         // Failed to write /w/out/a.txt; Failed to write /w/out/b.txt
-        (&[4, 5], b"\xf8\0\0\0\x01\0\0\0\x06\x02\0\0\0\x06\0\0\0errors\x05\x02\0\0\0\x06\x05\0\0\0\x06\0\0\0column\x02\0\0\0\0\x04\0\0\0file\x03\0\0\0\0\x06\0\0\0length\x02\0\0\0\0\x04\0\0\0line\x02\0\0\0\0\x04\0\0\0text\x03\x1c\0\0\0Failed to write /w/out/a.txt\x06\x05\0\0\0\x06\0\0\0column\x02\0\0\0\0\x04\0\0\0file\x03\0\0\0\0\x06\0\0\0length\x02\0\0\0\0\x04\0\0\0line\x02\0\0\0\0\x04\0\0\0text\x03\x1c\0\0\0Failed to write /w/out/b.txt\x0b\0\0\0outputFiles\x05\0\0\0\0"),
+        (
+            &[4, 5],
+            b"\xf8\0\0\0\x01\0\0\0\x06\x02\0\0\0\x06\0\0\0errors\x05\x02\0\0\0\x06\x05\0\0\0\x06\0\0\0column\x02\0\0\0\0\x04\0\0\0file\x03\0\0\0\0\x06\0\0\0length\x02\0\0\0\0\x04\0\0\0line\x02\0\0\0\0\x04\0\0\0text\x03\x1c\0\0\0Failed to write /w/out/a.txt\x06\x05\0\0\0\x06\0\0\0column\x02\0\0\0\0\x04\0\0\0file\x03\0\0\0\0\x06\0\0\0length\x02\0\0\0\0\x04\0\0\0line\x02\0\0\0\0\x04\0\0\0text\x03\x1c\0\0\0Failed to write /w/out/b.txt\x0b\0\0\0outputFiles\x05\0\0\0\0",
+        ),
     ];
     for (failing, reply) in rows {
         let (status, _, sent) = served(
