@@ -63,7 +63,7 @@ stops_Valued : (stops : Expression → Token → Bool) (target : Expression) (si
 unfolding loose_stops
 stops_Valued stops target sign x t = ap (loose_layer stops t) (ap out-Expression (sym (e.rolls-Assignment target sign x)) ∙ out-roll-Expression (Expression-F.Assignment target sign x))
 
-stops_target : {text : List ℕ} (stops : Expression → Token → Bool) {c : Context} {x : Expression} (t : Token) → IsTarget text c x → loose_stops stops x t ≡ not (is_assign t.kind)
+pub stops_target : {text : List ℕ} (stops : Expression → Token → Bool) {c : Context} {x : Expression} (t : Token) → IsTarget text c x → loose_stops stops x t ≡ not (is_assign t.kind)
 stops_target stops t (binding_identifier {t = u} h) = stops_Primary stops u t
 stops_target stops t (array_pattern {list = list} h) = stops_Array stops list t
 stops_target stops t (object_pattern {list = list} h) = stops_Object stops list t

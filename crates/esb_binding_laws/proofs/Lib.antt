@@ -1,1 +1,1 @@
-mod Bindings
+pub mod Bindings

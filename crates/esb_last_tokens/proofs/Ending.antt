@@ -49,7 +49,7 @@ next_link : (has_in : Bool) (kind : Kind) → ((goes_on kind && not (begins_link
 next_link has_in k.Comma = refl
 next_link has_in _ = refl
 
-by_edges : (c : Context) (a b u : Bool) (t : Token) → t.after_line ≡ true → (if a then is_comma t.kind else (if u then goes_on t.kind && not (begins_link t.kind) else goes_on t.kind)) ≡ false → (a ≡ false → u ≡ true → b ≡ true) → ends_by c a b t ≡ true
+pub by_edges : (c : Context) (a b u : Bool) (t : Token) → t.after_line ≡ true → (if a then is_comma t.kind else (if u then goes_on t.kind && not (begins_link t.kind) else goes_on t.kind)) ≡ false → (a ≡ false → u ≡ true → b ≡ true) → ends_by c a b t ≡ true
 by_edges c true b u t line none last = ap (λ l. ends_block l t.kind) line
 by_edges c false b true t line none last =
     ap (λ l. ends_plain c.has_in b l t.kind) line ∙ ap (λ p. ends_plain c.has_in p true t.kind) (last refl refl) ∙ either _ _ (next_link c.has_in t.kind) none

@@ -1,3 +1,3 @@
-mod Edges
-mod Ending
-mod Alone
+pub mod Edges
+pub mod Ending
+pub mod Alone

@@ -155,12 +155,12 @@ module _ (text : Text) (c : Context) where
   let_of x (function_expression h) g = cc
   let_of x (class_expression h) g = cc
 
-  let_in : (x : Expression) → IsExpression text c x → is_let_word x ≡ true → Let_word c x
+  pub let_in : (x : Expression) → IsExpression text c x → is_let_word x ≡ true → Let_word c x
   unfolding is_let_word out-Expression denote.Hole.Carrier.out
   let_in x (assignment_expression h) g = let_of x (primary_of (origin_in h (let_origin (out-Expression x) g)) (let_primary (out-Expression x) g)) g
   let_in x (commas first second rest h others) g = cc
 
-not_async : (text : List ℕ) (t : Token) → t.kind ≡ k.Let → is_async text t ≡ false
+pub not_async : (text : List ℕ) (t : Token) → t.kind ≡ k.Let → is_async text t ≡ false
 not_async text t h = refuted (is_async text t) (λ a. let bad : k.Let ≡ k.Name = sym h ∙ async_is text t a in cc)
 
 or_cases : (a b : Bool) → (a || b) ≡ true → (a ≡ true) ⊎ (b ≡ true)

@@ -107,13 +107,13 @@ brace_closes _ h = cc
 -- ---- the parts
 
 module _ (text : Text) (one many heads : Context → ℕ → Reader (Node Expression)) (items : Context → ℕ → Reader (Node (List Statement))) (n : ℕ) (r : ExactBelow text one many heads items n) where
-  values_within : (m : ℕ) → m ≤ n → ReadsWithin text m one
+  pub values_within : (m : ℕ) → m ≤ n → ReadsWithin text m one
   values_within m within = record { rule = λ c l low. fewer_rule text (expressions (IsAssignment text c)) l l (ends_value c) (λ _. ends_element) (one c l) (r.one_read c l (omega (arith, within, low))) (λ x t good h. element_ends c x t h) }
 
-  bodies_within : (m : ℕ) → m ≤ n → ReadsBodies text m items
+  pub bodies_within : (m : ℕ) → m ≤ n → ReadsBodies text m items
   bodies_within m within = record { rule = λ c l low. r.items_read c l (omega (arith, within, low)) }
 
-  heads_within : (m : ℕ) → m ≤ n → ReadsHeads text m heads
+  pub heads_within : (m : ℕ) → m ≤ n → ReadsHeads text m heads
   heads_within m within = record { rule = λ c l low. r.heads_read c l (omega (arith, within, low)) }
 
   module _ (c : Context) where
@@ -152,7 +152,7 @@ module _ (text : Text) (one many heads : Context → ℕ → Reader (Node Expres
       imported = fewer_rule text (expressions (IsAssignment text (inside c))) m m (ends_value (inside c)) (λ _ t. is_right_parenthesis t.kind) (one (inside c) m) (r.one_read (inside c) m within) (λ x t good h. closer_ends (inside c) x t (parenthesis_closes t.kind h));
     }
 
-    all_read : ReadsAll text c (read.primary_of text one many heads items c) (read.arguments_of text one many heads items c) (read.template_of text one many heads items c) (read.brackets_of text one many heads items c) one (read.block_of text one many heads items c) n
+    pub all_read : ReadsAll text c (read.primary_of text one many heads items c) (read.arguments_of text one many heads items c) (read.template_of text one many heads items c) (read.brackets_of text one many heads items c) one (read.block_of text one many heads items c) n
     unfolding read.block_of
     all_read = record {
       parts = parts_read;
