@@ -1,2 +1,4 @@
 pub mod Bodies
+pub mod Definitions
 pub mod Handed
+pub mod Heads

@@ -1,4 +1,4 @@
-//! Classes of tokens.
+//! Classes of tokens, and what the lists of each form have.
 
 ghost use Rattle.std.specs.Prelude.{◌≡◌};
 ghost use Rattle.esb_grammar.specs.Forms as forms;
@@ -6,6 +6,7 @@ ghost use Rattle.esb_grammar.specs.Kinds as kinds;
 ghost use Rattle.esb_grammar.specs.Contexts as contexts;
 ghost use Rattle.esb_expression_laws.specs.Lists as lists;
 ghost use Rattle.esb_literal_laws.specs.Bindings as bindings;
+ghost use Rattle.esb_literal_laws.specs.Classes as classes;
 ghost use Rattle.esb_literal_laws.specs.Methods as methods;
 ghost use Rattle.esb_literal_laws.specs.Templates as templates;
 
@@ -92,4 +93,26 @@ pub fn begins_name(token: Token) -> bool
     ensures { result ≡ methods.begins_name token }
 {
     is_property_word(token.kind) || is_left_bracket(token.kind) || is_star(token.kind)
+}
+
+pub fn takes_hole(form: Form, last: bool) -> bool
+    ensures { result ≡ forms.takes_hole form last }
+{
+    match form {
+        Form::Array | Form::ArrayPattern => true,
+        Form::Values | Form::Bindings => false,
+        _ => last,
+    }
+}
+
+pub fn is_static(kind: Kind) -> bool
+    ensures { result ≡ kinds.is_static kind }
+{
+    matches!(kind, Kind::Static)
+}
+
+pub fn is_extends(kind: Kind) -> bool
+    ensures { result ≡ classes.is_extends kind }
+{
+    matches!(kind, Kind::Extends)
 }
