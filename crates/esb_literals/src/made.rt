@@ -1,11 +1,53 @@
 //! Nodes of the parts that were read.
 
 ghost use Rattle.std.specs.Prelude.{◌≡◌};
+ghost use Rattle.esb_reader.specs.Reader.{Gives};
 ghost use Rattle.esb_literals.specs.Definitions as definitions;
 
-use esb_reader::Node;
+use esb_inner::boxed;
+use esb_reader::{Fault, Node, Reading};
 use esb_token::Token;
-use esb_tree::{Block, Bracketed, Function};
+use esb_tree::{Block, Bracketed, Element, Function, Method, PropertyName};
+use std::alloc::Global;
+
+/// A method of its words and the rest, one level above that and within a number of levels.
+pub fn make_method(
+    levels: usize,
+    word: Option<Token>,
+    star: Option<Token>,
+    rest: Node<(PropertyName, (Bracketed, Block))>,
+    at: usize,
+) -> Reading<Node<Method>>
+    ensures { Gives result (definitions.method_of levels word star rest at) }
+{
+    if rest.levels >= levels {
+        return Err(Fault::NoTree(at));
+    }
+    let levels = rest.levels + 1;
+    let (name, (parameters, body)) = rest.tree;
+    let tree = Method {
+        word,
+        star,
+        name,
+        parameters,
+        body,
+    };
+    Ok((Node { tree, levels }, at))
+}
+
+/// A method as a property.
+pub fn make_method_property(
+    alloc: Global,
+    method: Node<Method>,
+    at: usize,
+) -> Reading<Node<Element>>
+    ensures { Gives result (definitions.method_property method at) }
+{
+    let levels = method.levels;
+    let method = boxed(alloc, method.tree)?;
+    let tree = Element::MethodProperty(method);
+    Ok((Node { tree, levels }, at))
+}
 
 /// A function of its words and the rest.
 pub fn make_function(
