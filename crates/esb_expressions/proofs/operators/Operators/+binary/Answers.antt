@@ -1,0 +1,73 @@
+use Rattle.std.proofs.Common.{◌≡◌, ℕ, suc, true, Some, subst, rules, arith}
+use Rattle.std.proofs.lemmas.Grind.{common_steps}
+use Rattle.std.proofs.lemmas.Result.{err_from_is_err_and}
+use Rattle.esb_reader.specs.Reader.{node, pure, repeated}
+use Rattle.esb_expression_laws.specs.Operators.{operand}
+use Rattle.esb_operator_laws.specs.Unary.{unary}
+use Rattle.esb_operator_laws.specs.Ladder.{at_operator, ladder, binary}
+use Rattle.esb_expressions.proofs.Steps.{one_more}
+use Rattle.esb_expressions.proofs.Behind.{first_fails, first_gives, level_fails, level_goes, step_gives}
+use Rattle.esb_expressions.proofs.operators.Operators.+binary.Goals as goal
+
+pub items-returns-then-not-at_operator : goal.items-returns-then-not-at_operator
+unfolding repeated
+items-returns-then-not-at_operator g t c =
+    let l = c.loop-turn in
+    let text = c.args.self.now.text.now in
+    let tighter = binary text c.args.levels c.args.context (unary text c.args.context (g.R.Readers.left c.args.context text) c.args.levels) c.args.tight in
+    let e = one_more (λ n. repeated (at_operator text c.args.context (suc c.args.tight)) (operand text c.args.context (suc c.args.tight) tighter) n (node l.tree l.deepest) l.at) _ l._turn c.loop-turn-test.true l.invariant in
+    first_of (search rules, grind (arith, common_steps))
+
+pub items-returns-in_err-operand : goal.items-returns-in_err-operand
+unfolding repeated
+items-returns-in_err-operand g t c =
+    let l = c.loop-turn in
+    let text = c.args.self.now.text.now in
+    let tighter = binary text c.args.levels c.args.context (unary text c.args.context (g.R.Readers.left c.args.context text) c.args.levels) c.args.tight in
+    let e = one_more (λ n. repeated (at_operator text c.args.context (suc c.args.tight)) (operand text c.args.context (suc c.args.tight) tighter) n (node l.tree l.deepest) l.at) _ l._turn c.loop-turn-test.true l.invariant in
+    first_of (search rules, grind (arith, common_steps))
+
+pub items-loop-turn-preserved : goal.items-loop-turn-preserved
+unfolding repeated
+items-loop-turn-preserved g t c =
+    let l = c.loop-turn in
+    let text = c.args.self.now.text.now in
+    let tighter = binary text c.args.levels c.args.context (unary text c.args.context (g.R.Readers.left c.args.context text) c.args.levels) c.args.tight in
+    let e = one_more (λ n. repeated (at_operator text c.args.context (suc c.args.tight)) (operand text c.args.context (suc c.args.tight) tighter) n (node l.tree l.deepest) l.at) _ l._turn c.loop-turn-test.true l.invariant in
+    first_of (search rules, grind (arith, common_steps))
+
+pub level_behind-returns : goal.level_behind-returns
+level_behind-returns g t c =
+    let text = c.args.self.now.text.now in
+    step_gives text c.args.levels c.args.context (unary text c.args.context (g.R.Readers.left c.args.context text) c.args.levels) _ c.args.tight c.args.at c.args.first c.in_ok-rest.rest c.in_ok-rest.at c.in_ok-rest.ensures c.joined.ensures
+
+pub ladder_behind-returns-in_err-next : goal.ladder_behind-returns-in_err-next
+ladder_behind-returns-in_err-next g t c =
+    let l = c.loop-tight in
+    let text = c.args.self.now.text.now in
+    let p = err_from_is_err_and c.from_residual.result c.from_residual.ensures.1 in
+    rw (p.1, p.2) (level_fails text c.args.levels c.args.context (unary text c.args.context (g.R.Readers.left c.args.context text) c.args.levels) _ (pure c.args.first) l.tight c.args.level c.args.start l.x l.at c.loop-tight-test.true l.invariant c.in_err-next.ensures)
+
+pub ladder_behind-loop-tight-preserved : goal.ladder_behind-loop-tight-preserved
+ladder_behind-loop-tight-preserved g t c =
+    let l = c.loop-tight in
+    let text = c.args.self.now.text.now in
+    level_goes text c.args.levels c.args.context (unary text c.args.context (g.R.Readers.left c.args.context text) c.args.levels) (pure c.args.first) l.tight c.args.start l.x l.at _ _ l.invariant c.in_ok-next.ensures
+
+pub ladder_behind-returns : goal.ladder_behind-returns
+ladder_behind-returns g t c =
+    let l = c.loop-tight in
+    let text = c.args.self.now.text.now in
+    let same : l.tight ≡ c.args.level = omega arith in
+    subst (λ (k : ℕ). ladder text c.args.levels c.args.context (unary text c.args.context (g.R.Readers.left c.args.context text) c.args.levels) (pure c.args.first) k c.args.start ≡ Some (l.x, l.at)) same l.invariant
+
+pub binary-returns-in_err-first : goal.binary-returns-in_err-first
+binary-returns-in_err-first g t c =
+    let text = c.args.self.now.text.now in
+    let p = err_from_is_err_and c.from_residual.result c.from_residual.ensures.1 in
+    rw (p.1, p.2) (first_fails text c.args.levels c.args.context (unary text c.args.context (g.R.Readers.left c.args.context text) c.args.levels) _ (unary text c.args.context (g.R.Readers.left c.args.context text) c.args.levels) c.args.level c.args.at c.in_err-first.ensures)
+
+pub binary-returns : goal.binary-returns
+binary-returns g t c =
+    let text = c.args.self.now.text.now in
+    first_gives text c.args.levels c.args.context (unary text c.args.context (g.R.Readers.left c.args.context text) c.args.levels) _ (unary text c.args.context (g.R.Readers.left c.args.context text) c.args.levels) c.args.level c.args.at c.in_ok-first.first c.in_ok-first.at c.in_ok-first.ensures c.ladder_behind.ensures

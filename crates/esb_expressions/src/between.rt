@@ -1,0 +1,213 @@
+//! Operators between operands (ECMA-262, 12.6 to 12.13). Each has a level: 1 is that of `**`, which binds tightest, and 12 that
+//! of `??`.
+
+ghost use Rattle.std.specs.Prelude.{◌≡◌, ◌<◌, ◌≤◌, suc};
+ghost use Rattle.esb_tree.specs.declared.expressions.Expression.TheVariants as e;
+ghost use Rattle.esb_reader.specs.Reader.{Gives, pure};
+ghost use Rattle.esb_reader.specs.Parts.{over};
+ghost use Rattle.esb_inner.specs.Inner.{ReadsWithin};
+ghost use Rattle.esb_expression_laws.specs.Operators as operands;
+ghost use Rattle.esb_operator_laws.specs.Unary as unary;
+ghost use Rattle.esb_operator_laws.specs.Ladder as spec;
+
+use crate::fits::fits_level;
+use crate::kinds::is_operator;
+use crate::operators::Operators;
+use esb_base::{List, Text};
+use esb_grammar::Context;
+use esb_inner::{Readers, boxed};
+use esb_reader::{Fault, Node, Reading, peek, take};
+use esb_token::Goal;
+use esb_tree::{Expression, Operand};
+use std::alloc::Global;
+
+/// A first operand and those behind it as a node, where there are any.
+fn chained(
+    alloc: Global,
+    levels: usize,
+    first: Node<Expression>,
+    rest: Node<List<Operand>>,
+    at: usize,
+) -> Reading<Node<Expression>>
+    ensures { Gives result (over levels e.Binary first rest at) }
+{
+    if rest.tree.is_empty() {
+        return Ok((first, at));
+    }
+    let deepest = first.levels.max(rest.levels);
+    if deepest >= levels {
+        return Err(Fault::NoTree(at));
+    }
+    let tree = Expression::Binary(boxed(alloc, first.tree)?, rest.tree);
+    Ok((
+        Node {
+            tree,
+            levels: deepest + 1,
+        },
+        at,
+    ))
+}
+
+/// A first operand and those behind it, which have to be what their level takes.
+fn joined(
+    alloc: Global,
+    levels: usize,
+    own: u8,
+    first: Node<Expression>,
+    rest: Node<List<Operand>>,
+    at: usize,
+) -> Reading<Node<Expression>>
+    ensures { Gives result (spec.joined levels own first rest at) }
+{
+    let (x, at) = chained(alloc, levels, first, rest, at)?;
+    if !fits_level(own, &x.tree) {
+        return Err(Fault::NoTree(at));
+    }
+    Ok((x, at))
+}
+
+/// Whether an operator one level looser than `tight` stands at a place.
+#[tactic(auto, unfolding(esb_operator_laws::specs::Ladder::at_operator))]
+fn at_operator(text: &Text, context: Context, tight: u8, at: usize) -> bool
+    requires { tight < 255 }
+    ensures { result ≡ spec.at_operator text.now context (suc tight) at }
+{
+    is_operator(context, tight, peek(text, Goal::Div, at))
+}
+
+impl<
+    'a,
+    R: Readers,
+    L: Fn(Global, &Text, Context, usize, usize) -> Reading<Node<Expression>>,
+> Operators<'a, R, L> {
+    /// An operator one level looser than `tight`, and its operand.
+    #[cycle(binary)]
+    #[tactic(auto, unfolding(esb_expression_laws::specs::Operators::operand))]
+    fn operand(
+        &self,
+        context: Context,
+        levels: usize,
+        tight: u8,
+        at: usize,
+    ) -> Reading<Node<Operand>>
+        requires left { ReadsWithin R.left self.now.levels (L.pre self.now.left) (L.post self.now.left) }
+        requires fits { levels ≤ self.now.levels }
+        requires small { tight < 255 }
+        ensures { Gives result (operands.operand self.now.text.now context (suc tight) (spec.binary self.now.text.now levels context (unary.unary self.now.text.now context (R.left context self.now.text.now) levels) tight) at) }
+    {
+        let (operator, at) = take(self.text, Goal::Div, at)?;
+        if !is_operator(context, tight, operator) {
+            return Err(Fault::NoTree(operator.start));
+        }
+        let (x, at) = self.binary(context, levels, tight, at)?;
+        let levels = x.levels;
+        let tree = Operand {
+            operator,
+            value: x.tree,
+        };
+        Ok((Node { tree, levels }, at))
+    }
+
+    /// Operators one level looser than `tight`, each with its operand.
+    #[cycle(binary)]
+    #[tactic(auto, unfolding(esb_operator_laws::specs::Ladder::items, esb_reader::specs::Reader::repeated))]
+    fn items(
+        &self,
+        context: Context,
+        levels: usize,
+        tight: u8,
+        start: usize,
+    ) -> Reading<Node<List<Operand>>>
+        requires left { ReadsWithin R.left self.now.levels (L.pre self.now.left) (L.post self.now.left) }
+        requires fits { levels ≤ self.now.levels }
+        requires small { tight < 255 }
+        ensures { Gives result (spec.items self.now.text.now context (suc tight) (spec.binary self.now.text.now levels context (unary.unary self.now.text.now context (R.left context self.now.text.now) levels) tight) start) }
+    {
+        let mut at = start;
+        let mut tree = List::new(self.alloc);
+        let mut deepest = 0;
+        for _turn in 0..self.text.as_bytes().len() {
+            if !at_operator(self.text, context, tight, at) {
+                return Ok((
+                    Node {
+                        tree,
+                        levels: deepest,
+                    },
+                    at,
+                ));
+            }
+            let (operand, end) = self.operand(context, levels, tight, at)?;
+            tree.push(operand.tree)?;
+            deepest = deepest.max(operand.levels);
+            at = end;
+        }
+        Ok((
+            Node {
+                tree,
+                levels: deepest,
+            },
+            at,
+        ))
+    }
+
+    /// What follows operators up to `tight`: those one level looser.
+    #[cycle(binary)]
+    fn level_behind(
+        &self,
+        context: Context,
+        levels: usize,
+        tight: u8,
+        first: Node<Expression>,
+        at: usize,
+    ) -> Reading<Node<Expression>>
+        requires left { ReadsWithin R.left self.now.levels (L.pre self.now.left) (L.post self.now.left) }
+        requires fits { levels ≤ self.now.levels }
+        requires small { tight < 255 }
+        ensures { Gives result (spec.step self.now.text.now levels context (suc tight) (pure first) (spec.binary self.now.text.now levels context (unary.unary self.now.text.now context (R.left context self.now.text.now) levels) tight) at) }
+    {
+        let (rest, at) = self.items(context, levels, tight, at)?;
+        joined(self.alloc, levels, tight + 1, first, rest, at)
+    }
+
+    /// What follows a first operand that was read: operators up to a level (ECMA-262, 12.6 to 12.13).
+    #[cycle(binary)]
+    #[tactic(auto, unfolding(esb_operator_laws::specs::Ladder::ladder))]
+    pub fn ladder_behind(
+        &self,
+        context: Context,
+        levels: usize,
+        level: u8,
+        first: Node<Expression>,
+        start: usize,
+    ) -> Reading<Node<Expression>>
+        requires left { ReadsWithin R.left self.now.levels (L.pre self.now.left) (L.post self.now.left) }
+        requires fits { levels ≤ self.now.levels }
+        ensures { Gives result (spec.ladder self.now.text.now levels context (unary.unary self.now.text.now context (R.left context self.now.text.now) levels) (pure first) level start) }
+    {
+        let mut x = first;
+        let mut at = start;
+        for tight in 0..level {
+            let (next, end) = self.level_behind(context, levels, tight, x, at)?;
+            x = next;
+            at = end;
+        }
+        Ok((x, at))
+    }
+
+    /// Operators up to a level and their operands (ECMA-262, 12.6 to 12.13).
+    #[cycle(binary)]
+    pub fn binary(
+        &self,
+        context: Context,
+        levels: usize,
+        level: u8,
+        at: usize,
+    ) -> Reading<Node<Expression>>
+        requires left { ReadsWithin R.left self.now.levels (L.pre self.now.left) (L.post self.now.left) }
+        requires fits { levels ≤ self.now.levels }
+        ensures { Gives result (spec.binary self.now.text.now levels context (unary.unary self.now.text.now context (R.left context self.now.text.now) levels) level at) }
+    {
+        let (first, at) = self.unary(context, levels, at)?;
+        self.ladder_behind(context, levels, level, first, at)
+    }
+}
