@@ -1,0 +1,3 @@
+pub mod Lasts
+pub mod Steps
+pub mod Whole
