@@ -1,0 +1,5 @@
+pub mod Steps
+pub mod PointSteps
+pub mod RuleLines
+pub mod ItemSteps
+pub mod DirectiveSteps
