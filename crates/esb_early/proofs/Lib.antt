@@ -3,3 +3,4 @@ pub mod PointSteps
 pub mod RuleLines
 pub mod ItemSteps
 pub mod DirectiveSteps
+pub mod StringSteps

@@ -4,7 +4,8 @@ use Rattle.std.specs.Cmp.Lexicographic.{pointwise}
 use Rattle.esb_token.specs.declared.kind.Kind.{Kind}
 use Rattle.esb_token.specs.declared.kind.Kind.TheVariants as k
 use Rattle.esb_token.specs.declared.token.Token.{Token}
-use Rattle.esb_early.specs.Names.{bytes_of, points}
+use Rattle.esb_token.specs.Strings.{string_value}
+use Rattle.esb_early.specs.Names.{is_spelled}
 
 abbrev pub is_text : Kind → Bool
 is_text k.Text = true
@@ -14,13 +15,9 @@ is_text _ = false
 abbrev pub inside : List ℕ → List ℕ
 inside text = take (length text - 2) (drop 1 text)
 
--- what spells a key, without quotes
-abbrev pub spelling : List ℕ → Token → List ℕ
-spelling text t = if is_text t.kind then inside (bytes_of text t) else bytes_of text t
-
--- whether a key is this name, as a name or as a string
+-- whether a key is this name of ASCII characters, as a name or as a string (PropName, 12.2.6.5)
 abbrev pub is_key : List ℕ → List ℕ → Token → Bool
-is_key text word t = pointwise nat_eq (points (spelling text t)) (points word)
+is_key text word t = if is_text t.kind then pointwise nat_eq (string_value (drop t.start text)) word else is_spelled text word t
 
 -- whether a key is `constructor`; a computed one is not
 abbrev pub is_constructor : List ℕ → Option Token → Bool

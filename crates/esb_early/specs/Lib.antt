@@ -1,4 +1,6 @@
 pub mod Names
+pub mod Strings
+pub mod Parameters
 pub mod Keys
 pub mod Directives
 pub mod Settings

@@ -3,8 +3,9 @@
 ghost use Rattle.std.specs.Prelude.{◌≡◌};
 ghost use Rattle.esb_early.specs.Keys as spec;
 
-use crate::names::{bytes_of, has_same_points};
+use crate::names::is_spelled;
 use crate::points::after;
+use crate::strings::is_string_of;
 use esb_token::{Kind, Token};
 
 /// Whether a token is a string.
@@ -22,23 +23,15 @@ pub fn inside(text: &[u8]) -> &[u8]
     &rest[..text.len().saturating_sub(2)]
 }
 
-/// What spells a key, without quotes.
-fn spelling(text: &[u8], t: Token) -> &[u8]
-    ensures { result.now ≡ spec.spelling text.now t }
-{
-    let bytes = bytes_of(text, t);
-    if is_text(t.kind) {
-        inside(bytes)
-    } else {
-        bytes
-    }
-}
-
 /// Whether a key is this name, as a name or as a string.
 fn is_key(text: &[u8], word: &[u8], t: Token) -> bool
     ensures { result ≡ spec.is_key text.now word.now t }
 {
-    has_same_points(spelling(text, t), word)
+    if is_text(t.kind) {
+        is_string_of(after(text, t.start.min(text.len())), word)
+    } else {
+        is_spelled(text, word, t)
+    }
 }
 
 /// Whether a key is `constructor`; a computed one is not.

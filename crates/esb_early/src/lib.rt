@@ -15,6 +15,7 @@ mod points;
 mod roles;
 mod setting;
 mod shapes;
+mod strings;
 mod walk;
 
 pub use breach::{Breach, Rule};
