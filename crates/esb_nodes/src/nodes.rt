@@ -12,11 +12,17 @@ use esb_tree::{
 use sqlite_items::Boxed;
 use std::alloc::Global;
 
+/// Drops what it is given. A node that ends in a function of its own kind has all drops of its parts in it, which is too much to
+/// prove where it holds several without boxes; here it is dropped by a call.
+fn let_go<T: Drop>(_node: T) {}
+
 macro_rules! held {
     ($($node:ty)*) => {
         $(
             impl Discard for $node {
-                fn discard(self) {}
+                fn discard(self) {
+                    let_go(self)
+                }
             }
 
             impl Discard for List<$node> {
