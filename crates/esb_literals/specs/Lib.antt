@@ -1,2 +1,5 @@
 pub mod Bodies
+pub mod Definitions
 pub mod Handed
+pub mod Heads
+pub mod Pieces

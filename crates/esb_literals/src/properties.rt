@@ -1,4 +1,4 @@
-//! Properties of objects that hold no method and no computed name (ECMA-262, 12.2.6), and what begins a method (14.3).
+//! Names of properties, and properties of objects that hold no method (ECMA-262, 12.2.6), and what begins a method (14.3).
 
 ghost use Rattle.std.specs.Prelude.{◌≡◌, ◌≤◌};
 ghost use Rattle.esb_reader.specs.Reader.{Gives};
@@ -9,13 +9,14 @@ ghost use Rattle.esb_literal_laws.specs.Objects as objects;
 ghost use Rattle.esb_literals.specs.Bodies.{bodies};
 ghost use Rattle.esb_literals.specs.Handed as handed;
 
-use crate::kinds::{begins_name, inside, stands_alone};
+use crate::kinds::{begins_name, inside, is_left_bracket, stands_alone};
 use crate::literals::Literals;
 use crate::words::{is_accessor, is_async};
 use esb_base::{List, Text};
 use esb_grammar::{Context, is_property_word, is_reference};
 use esb_inner::Readers;
-use esb_reader::{Fault, Node, Reading, peek, take};
+use esb_nodes::with;
+use esb_reader::{Fault, Node, Reading, expect, peek, take};
 use esb_token::{Goal, Kind};
 use esb_tree::{Element, Expression, PropertyName, Statement};
 use std::alloc::Global;
@@ -111,5 +112,28 @@ impl<
         }
         let tree = PropertyName::Named(name);
         Ok((Node { tree, levels: 0 }, at))
+    }
+
+    /// PropertyName (12.2.6).
+    #[tactic(auto, unfolding(esb_literal_laws::specs::Names::property_name, esb_literal_laws::specs::Names::computed_name))]
+    pub fn property_name(
+        &self,
+        context: Context,
+        levels: usize,
+        at: usize,
+    ) -> Reading<Node<PropertyName>>
+        requires inner { ReadsExpressions R.expression self.now.parser.now.levels (F.pre self.now.parser.now.expression) (F.post self.now.parser.now.expression) }
+        requires fits { levels ≤ self.now.parser.now.levels }
+        ensures { Gives result (names.property_name self.now.parser.now.text.now (handed.values R.expression self.now.parser.now.text.now) context levels at) }
+    {
+        if !is_left_bracket(peek(self.parser.text, Goal::Div, at).kind) {
+            return self.literal_name(at);
+        }
+        let (begin, at) = expect(self.parser.text, Kind::LeftBracket, at)?;
+        let (x, at) = self.value(inside(context), levels, at)?;
+        let (x, (ending, at)) = with(x, expect(self.parser.text, Kind::RightBracket, at))?;
+        let levels = x.levels;
+        let tree = PropertyName::Computed(begin, x.tree, ending);
+        Ok((Node { tree, levels }, at))
     }
 }
