@@ -23,7 +23,9 @@ impl Discard for List<CaseClause> {
 }
 
 impl Listed for CaseClause {
-    fn added_to(self, list: List<CaseClause>) -> Result<List<CaseClause>, Memory> {
+    fn added_to(self, list: List<CaseClause>) -> Result<List<CaseClause>, Memory>
+        ensures { IfOk result (λ longer. longer ≡ list ++ self ∷ []) }
+    {
         let mut list = list;
         list.push(self)?;
         Ok(list)
@@ -37,7 +39,9 @@ impl Discard for List<ClassElement> {
 }
 
 impl Listed for ClassElement {
-    fn added_to(self, list: List<ClassElement>) -> Result<List<ClassElement>, Memory> {
+    fn added_to(self, list: List<ClassElement>) -> Result<List<ClassElement>, Memory>
+        ensures { IfOk result (λ longer. longer ≡ list ++ self ∷ []) }
+    {
         let mut list = list;
         list.push(self)?;
         Ok(list)
@@ -51,7 +55,9 @@ impl Discard for List<ElseIf> {
 }
 
 impl Listed for ElseIf {
-    fn added_to(self, list: List<ElseIf>) -> Result<List<ElseIf>, Memory> {
+    fn added_to(self, list: List<ElseIf>) -> Result<List<ElseIf>, Memory>
+        ensures { IfOk result (λ longer. longer ≡ list ++ self ∷ []) }
+    {
         let mut list = list;
         list.push(self)?;
         Ok(list)
@@ -65,7 +71,9 @@ impl Discard for List<Link> {
 }
 
 impl Listed for Link {
-    fn added_to(self, list: List<Link>) -> Result<List<Link>, Memory> {
+    fn added_to(self, list: List<Link>) -> Result<List<Link>, Memory>
+        ensures { IfOk result (λ longer. longer ≡ list ++ self ∷ []) }
+    {
         let mut list = list;
         list.push(self)?;
         Ok(list)
@@ -79,7 +87,9 @@ impl Discard for List<ModuleItem> {
 }
 
 impl Listed for ModuleItem {
-    fn added_to(self, list: List<ModuleItem>) -> Result<List<ModuleItem>, Memory> {
+    fn added_to(self, list: List<ModuleItem>) -> Result<List<ModuleItem>, Memory>
+        ensures { IfOk result (λ longer. longer ≡ list ++ self ∷ []) }
+    {
         let mut list = list;
         list.push(self)?;
         Ok(list)
@@ -93,7 +103,9 @@ impl Discard for List<NextElement> {
 }
 
 impl Listed for NextElement {
-    fn added_to(self, list: List<NextElement>) -> Result<List<NextElement>, Memory> {
+    fn added_to(self, list: List<NextElement>) -> Result<List<NextElement>, Memory>
+        ensures { IfOk result (λ longer. longer ≡ list ++ self ∷ []) }
+    {
         let mut list = list;
         list.push(self)?;
         Ok(list)
@@ -107,7 +119,9 @@ impl Discard for List<Operand> {
 }
 
 impl Listed for Operand {
-    fn added_to(self, list: List<Operand>) -> Result<List<Operand>, Memory> {
+    fn added_to(self, list: List<Operand>) -> Result<List<Operand>, Memory>
+        ensures { IfOk result (λ longer. longer ≡ list ++ self ∷ []) }
+    {
         let mut list = list;
         list.push(self)?;
         Ok(list)
@@ -121,7 +135,9 @@ impl Discard for List<Statement> {
 }
 
 impl Listed for Statement {
-    fn added_to(self, list: List<Statement>) -> Result<List<Statement>, Memory> {
+    fn added_to(self, list: List<Statement>) -> Result<List<Statement>, Memory>
+        ensures { IfOk result (λ longer. longer ≡ list ++ self ∷ []) }
+    {
         let mut list = list;
         list.push(self)?;
         Ok(list)
@@ -135,7 +151,9 @@ impl Discard for List<Substitution> {
 }
 
 impl Listed for Substitution {
-    fn added_to(self, list: List<Substitution>) -> Result<List<Substitution>, Memory> {
+    fn added_to(self, list: List<Substitution>) -> Result<List<Substitution>, Memory>
+        ensures { IfOk result (λ longer. longer ≡ list ++ self ∷ []) }
+    {
         let mut list = list;
         list.push(self)?;
         Ok(list)
