@@ -16,6 +16,14 @@ pub trait Listed: Discard {
         ensures { IfOk result (λ longer. longer ≡ list ++ self ∷ []) };
 }
 
+fn added<T: Drop>(list: List<T>, node: T) -> Result<List<T>, Memory>
+    ensures { IfOk result (λ longer. longer ≡ list ++ node ∷ []) }
+{
+    let mut list = list;
+    list.push(node)?;
+    Ok(list)
+}
+
 impl Discard for List<CaseClause> {
     fn discard(self) {
         drop(self);
@@ -26,9 +34,7 @@ impl Listed for CaseClause {
     fn added_to(self, list: List<CaseClause>) -> Result<List<CaseClause>, Memory>
         ensures { IfOk result (λ longer. longer ≡ list ++ self ∷ []) }
     {
-        let mut list = list;
-        list.push(self)?;
-        Ok(list)
+        added(list, self)
     }
 }
 
@@ -42,9 +48,7 @@ impl Listed for ClassElement {
     fn added_to(self, list: List<ClassElement>) -> Result<List<ClassElement>, Memory>
         ensures { IfOk result (λ longer. longer ≡ list ++ self ∷ []) }
     {
-        let mut list = list;
-        list.push(self)?;
-        Ok(list)
+        added(list, self)
     }
 }
 
@@ -58,9 +62,7 @@ impl Listed for ElseIf {
     fn added_to(self, list: List<ElseIf>) -> Result<List<ElseIf>, Memory>
         ensures { IfOk result (λ longer. longer ≡ list ++ self ∷ []) }
     {
-        let mut list = list;
-        list.push(self)?;
-        Ok(list)
+        added(list, self)
     }
 }
 
@@ -74,9 +76,7 @@ impl Listed for Link {
     fn added_to(self, list: List<Link>) -> Result<List<Link>, Memory>
         ensures { IfOk result (λ longer. longer ≡ list ++ self ∷ []) }
     {
-        let mut list = list;
-        list.push(self)?;
-        Ok(list)
+        added(list, self)
     }
 }
 
@@ -90,9 +90,7 @@ impl Listed for ModuleItem {
     fn added_to(self, list: List<ModuleItem>) -> Result<List<ModuleItem>, Memory>
         ensures { IfOk result (λ longer. longer ≡ list ++ self ∷ []) }
     {
-        let mut list = list;
-        list.push(self)?;
-        Ok(list)
+        added(list, self)
     }
 }
 
@@ -106,9 +104,7 @@ impl Listed for NextElement {
     fn added_to(self, list: List<NextElement>) -> Result<List<NextElement>, Memory>
         ensures { IfOk result (λ longer. longer ≡ list ++ self ∷ []) }
     {
-        let mut list = list;
-        list.push(self)?;
-        Ok(list)
+        added(list, self)
     }
 }
 
@@ -122,9 +118,7 @@ impl Listed for Operand {
     fn added_to(self, list: List<Operand>) -> Result<List<Operand>, Memory>
         ensures { IfOk result (λ longer. longer ≡ list ++ self ∷ []) }
     {
-        let mut list = list;
-        list.push(self)?;
-        Ok(list)
+        added(list, self)
     }
 }
 
@@ -138,9 +132,7 @@ impl Listed for Statement {
     fn added_to(self, list: List<Statement>) -> Result<List<Statement>, Memory>
         ensures { IfOk result (λ longer. longer ≡ list ++ self ∷ []) }
     {
-        let mut list = list;
-        list.push(self)?;
-        Ok(list)
+        added(list, self)
     }
 }
 
@@ -154,8 +146,6 @@ impl Listed for Substitution {
     fn added_to(self, list: List<Substitution>) -> Result<List<Substitution>, Memory>
         ensures { IfOk result (λ longer. longer ≡ list ++ self ∷ []) }
     {
-        let mut list = list;
-        list.push(self)?;
-        Ok(list)
+        added(list, self)
     }
 }
