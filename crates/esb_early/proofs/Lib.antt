@@ -1,0 +1,6 @@
+pub mod Steps
+pub mod PointSteps
+pub mod RuleLines
+pub mod ItemSteps
+pub mod DirectiveSteps
+pub mod StringSteps

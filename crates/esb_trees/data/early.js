@@ -1,2 +1,0 @@
-for (;;) break;
-break;
