@@ -4,3 +4,5 @@ pub mod RuleLines
 pub mod ItemSteps
 pub mod DirectiveSteps
 pub mod StringSteps
+pub mod GatherSteps
+pub mod RepeatedSteps

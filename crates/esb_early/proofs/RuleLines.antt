@@ -1,5 +1,5 @@
 -- The breaches of each kind of node.
-use Rattle.std.proofs.Common.{◌≡◌, ℕ, Bool, true, false, ◌||◌, List, [], ◌∷◌, ◌++◌, map, Option, None, refl, ap, sym, ◌∙◌}
+use Rattle.std.proofs.Common.{◌≡◌, ℕ, Bool, true, false, ◌||◌, List, [], ◌∷◌, ◌++◌, map, if◌then◌else◌, Option, None, refl, ap, sym, ◌∙◌}
 use Rattle.esb_token.specs.declared.token.Token.{Token}
 use Rattle.esb_tree.specs.declared.classes.ClassElement.TheOpen.{ClassElement-F, Heritage-F, Expression-F, Link-F, ConciseBody-F, Element-F, PropertyName-F, CaseClause-F, Else-F, Finalizer-F, ForStart-F, Handler-F, MaybeExpression-F, Statement-F}
 use Rattle.esb_tree.specs.declared.classes.ClassElement.TheFolds.{fold-roll-ClassElement, fold-roll-Heritage, fold-roll-Expression, fold-roll-Link, fold-roll-ConciseBody, fold-roll-Element, fold-roll-PropertyName, fold-roll-CaseClause, fold-roll-Else, fold-roll-Finalizer, fold-roll-ForStart, fold-roll-Handler, fold-roll-MaybeExpression, fold-roll-Statement, fold-roll-Class, fold-roll-Operand, fold-roll-Substitution, fold-roll-Substitutions, fold-roll-Function, fold-roll-Method, fold-roll-Bracketed, fold-roll-Elements, fold-roll-NextElement, fold-roll-Block, fold-roll-Declaration, fold-roll-ElseIf, fold-roll-IfClause}
@@ -45,21 +45,30 @@ use Rattle.esb_tree.specs.declared.statements.Declaration.{Declaration, roll-Dec
 use Rattle.esb_tree.specs.declared.statements.ElseIf.{ElseIf, roll-ElseIf, out-ElseIf, roll-out-ElseIf}
 use Rattle.esb_tree.specs.declared.statements.IfClause.{IfClause, roll-IfClause, out-IfClause, roll-out-IfClause}
 use Rattle.esb_grammar.specs.Forms.{is_empty}
+use Rattle.esb_grammar.specs.Kinds.{is_binding}
 use Rattle.esb_early.specs.declared.roles.ListRole.{ListRole}
 use Rattle.esb_early.specs.declared.roles.ListRole.TheVariants as lr
 use Rattle.esb_early.specs.declared.roles.Place.{Place}
 use Rattle.esb_early.specs.declared.roles.Role.{Role}
 use Rattle.esb_early.specs.declared.roles.Role.TheVariants as r
 use Rattle.esb_early.specs.declared.setting.Setting.{Setting}
+use Rattle.esb_early.specs.declared.shapes.BracketedShape.{BracketedShape}
+use Rattle.esb_early.specs.declared.shapes.ElementShape.{ElementShape}
+use Rattle.esb_early.specs.declared.shapes.ElementsShape.{ElementsShape}
+use Rattle.esb_early.specs.declared.shapes.ExpressionShape.{ExpressionShape}
+use Rattle.esb_early.specs.declared.shapes.LinkShape.{LinkShape}
+use Rattle.esb_early.specs.declared.shapes.LinksShape.{LinksShape}
+use Rattle.esb_early.specs.declared.shapes.PropertyNameShape.{PropertyNameShape}
 use Rattle.esb_early.specs.Directives.{directive_of, use_strict}
-use Rattle.esb_early.specs.Findings.{together, each, behind, unlabelled}
+use Rattle.esb_early.specs.Findings.{Finding, together, each, behind, unlabelled}
 use Rattle.esb_early.specs.Keys.{is_constructor, is_proto_in}
 use Rattle.esb_early.specs.Labels.{break_breaches, continue_breaches, label_breaches}
+use Rattle.esb_early.specs.Parameters.{joined, repeated_breaches}
 use Rattle.esb_early.specs.Roles.{array_role, object_role, parenthesized_role, assigned_role, element_role, spread_role, placed, is_prototype_method}
 use Rattle.esb_early.specs.Settings.{of_loop, of_switch, of_body, of_parameters, of_function, of_function_parameters, of_method_parameters, of_named_method}
 use Rattle.esb_early.specs.Shapes.{other_shape, primary_shape, parenthesized_shape, member_shape, access_link, call_link, template_link, optional_link, links_shape, hole_shape, value_shape, other_element, named_shape, computed_shape, start_of_function, bracketed_shape, elements_shape, property_element, key_of_prototype}
 use Rattle.esb_early.specs.Tests.{second_constructor, second_proto, strict_breaches, accessor_breaches, assignment_breaches, bound_breaches, constructor_breaches, declared_breaches, delete_breaches, initialized_breaches, literal_breaches, member_breaches, meta_breaches, method_property_breaches, operator_breaches, parenthesized_breaches, primary_breaches, reference_breaches, return_breaches, shorthand_breaches, spread_breaches, super_breaches, value_breaches}
-use Rattle.esb_early.specs.Rules.{Telling, TellingBy, TellingAs, links_breaches, class_elements_breaches, nexts_breaches, are_plain, directive_of_statement, use_strict_of_block, class_element_step, heritage_step, expression_step, link_step, concise_body_step, element_step, property_name_step, case_clause_step, else_step, finalizer_step, for_start_step, handler_step, maybe_expression_step, statement_step, class_step, operand_step, substitution_step, substitutions_step, function_step, method_step, bracketed_step, elements_step, next_element_step, block_step, declaration_step, else_if_step, if_clause_step, breaches_of_class_element, breaches_of_heritage, breaches_of_expression, breaches_of_link, breaches_of_concise_body, breaches_of_element, breaches_of_property_name, breaches_of_case_clause, breaches_of_else, breaches_of_finalizer, breaches_of_for_start, breaches_of_handler, breaches_of_maybe_expression, breaches_of_statement, breaches_of_class, breaches_of_operand, breaches_of_substitution, breaches_of_substitutions, breaches_of_function, breaches_of_method, breaches_of_bracketed, breaches_of_elements, breaches_of_next_element, breaches_of_block, breaches_of_declaration, breaches_of_else_if, breaches_of_if_clause, facts_of_class_element, facts_of_heritage, facts_of_expression, facts_of_link, facts_of_element, facts_of_property_name, facts_of_statement, facts_of_class, facts_of_substitutions, facts_of_function, facts_of_method, facts_of_bracketed, facts_of_elements, facts_of_next_element, facts_of_block, shape_of_class_element, shape_of_heritage, shape_of_expression, shape_of_link, shape_of_element, shape_of_property_name, shape_of_class, shape_of_substitutions, shape_of_function, shape_of_method, shape_of_bracketed, shape_of_elements, shape_of_next_element, is_loop_of_statement, ClassElementFacts, HeritageFacts, ExpressionFacts, LinkFacts, ElementFacts, PropertyNameFacts, StatementFacts, ClassFacts, SubstitutionsFacts, FunctionFacts, MethodFacts, BracketedFacts, ElementsFacts, NextElementFacts, BlockFacts}
+use Rattle.esb_early.specs.Rules.{Telling, TellingBy, TellingAs, links_breaches, class_elements_breaches, nexts_breaches, are_plain, directive_of_statement, use_strict_of_block, names_of_expression, names_of_link, names_of_element, names_of_bracketed, names_of_elements, names_of_next_element, class_element_step, heritage_step, expression_step, link_step, concise_body_step, element_step, property_name_step, case_clause_step, else_step, finalizer_step, for_start_step, handler_step, maybe_expression_step, statement_step, class_step, operand_step, substitution_step, substitutions_step, function_step, method_step, bracketed_step, elements_step, next_element_step, block_step, declaration_step, else_if_step, if_clause_step, breaches_of_class_element, breaches_of_heritage, breaches_of_expression, breaches_of_link, breaches_of_concise_body, breaches_of_element, breaches_of_property_name, breaches_of_case_clause, breaches_of_else, breaches_of_finalizer, breaches_of_for_start, breaches_of_handler, breaches_of_maybe_expression, breaches_of_statement, breaches_of_class, breaches_of_operand, breaches_of_substitution, breaches_of_substitutions, breaches_of_function, breaches_of_method, breaches_of_bracketed, breaches_of_elements, breaches_of_next_element, breaches_of_block, breaches_of_declaration, breaches_of_else_if, breaches_of_if_clause, facts_of_class_element, facts_of_heritage, facts_of_expression, facts_of_link, facts_of_element, facts_of_property_name, facts_of_statement, facts_of_class, facts_of_substitutions, facts_of_function, facts_of_method, facts_of_bracketed, facts_of_elements, facts_of_next_element, facts_of_block, shape_of_class_element, shape_of_heritage, shape_of_expression, shape_of_link, shape_of_element, shape_of_property_name, shape_of_class, shape_of_substitutions, shape_of_function, shape_of_method, shape_of_bracketed, shape_of_elements, shape_of_next_element, is_loop_of_statement, ClassElementFacts, HeritageFacts, ExpressionFacts, LinkFacts, ElementFacts, PropertyNameFacts, StatementFacts, ClassFacts, SubstitutionsFacts, FunctionFacts, MethodFacts, BracketedFacts, ElementsFacts, NextElementFacts, BlockFacts}
 
 pub is_ClassMethod : (y : ClassElement) (word : Option Token) (method : Method) (text : List ℕ) (setting : Setting) (is_derived : Bool) → y ≡ ce.ClassMethod word method → breaches_of_class_element y text setting is_derived ≡ breaches_of_method method text setting (is_prototype_method word) is_derived
 unfolding facts_of_class_element breaches_of_class_element shape_of_class_element facts_of_method breaches_of_method shape_of_method
@@ -101,6 +110,10 @@ pub shape_Primary : (y : Expression) (t : Token) → y ≡ e.Primary t → shape
 unfolding facts_of_expression breaches_of_expression shape_of_expression
 shape_Primary y t h = ap shape_of_expression h ∙ ap (λ f. f.shape) (ap facts_of_expression (sym (e.rolls-Primary t)) ∙ fold-roll-Expression ClassElementFacts HeritageFacts ExpressionFacts LinkFacts TellingBy ElementFacts PropertyNameFacts Telling Telling Telling TellingAs Telling Telling StatementFacts ClassFacts Telling Telling SubstitutionsFacts FunctionFacts MethodFacts BracketedFacts ElementsFacts NextElementFacts BlockFacts Telling Telling Telling class_element_step heritage_step expression_step link_step concise_body_step element_step property_name_step case_clause_step else_step finalizer_step for_start_step handler_step maybe_expression_step statement_step class_step operand_step substitution_step substitutions_step function_step method_step bracketed_step elements_step next_element_step block_step declaration_step else_if_step if_clause_step (Expression-F.Primary t))
 
+pub names_Primary : (y : Expression) (t : Token) → y ≡ e.Primary t → names_of_expression y ≡ (if is_binding t.kind then t ∷ [] else [])
+unfolding facts_of_expression breaches_of_expression shape_of_expression names_of_expression
+names_Primary y t h = ap names_of_expression h ∙ ap (λ f. f.names) (ap facts_of_expression (sym (e.rolls-Primary t)) ∙ fold-roll-Expression ClassElementFacts HeritageFacts ExpressionFacts LinkFacts TellingBy ElementFacts PropertyNameFacts Telling Telling Telling TellingAs Telling Telling StatementFacts ClassFacts Telling Telling SubstitutionsFacts FunctionFacts MethodFacts BracketedFacts ElementsFacts NextElementFacts BlockFacts Telling Telling Telling class_element_step heritage_step expression_step link_step concise_body_step element_step property_name_step case_clause_step else_step finalizer_step for_start_step handler_step maybe_expression_step statement_step class_step operand_step substitution_step substitutions_step function_step method_step bracketed_step elements_step next_element_step block_step declaration_step else_if_step if_clause_step (Expression-F.Primary t))
+
 pub is_MetaProperty : (y : Expression) (word : Token) (dot : Token) (name : Token) (text : List ℕ) (setting : Setting) (role : Role) → y ≡ e.MetaProperty word dot name → breaches_of_expression y text setting role ≡ together (meta_breaches word setting ∷ value_breaches role word.start ∷ [])
 unfolding facts_of_expression breaches_of_expression shape_of_expression
 is_MetaProperty y word dot name text setting role h = ap (λ z. breaches_of_expression z text setting role) h ∙ ap (λ f. f.breaches text setting role) (ap facts_of_expression (sym (e.rolls-MetaProperty word dot name)) ∙ fold-roll-Expression ClassElementFacts HeritageFacts ExpressionFacts LinkFacts TellingBy ElementFacts PropertyNameFacts Telling Telling Telling TellingAs Telling Telling StatementFacts ClassFacts Telling Telling SubstitutionsFacts FunctionFacts MethodFacts BracketedFacts ElementsFacts NextElementFacts BlockFacts Telling Telling Telling class_element_step heritage_step expression_step link_step concise_body_step element_step property_name_step case_clause_step else_step finalizer_step for_start_step handler_step maybe_expression_step statement_step class_step operand_step substitution_step substitutions_step function_step method_step bracketed_step elements_step next_element_step block_step declaration_step else_if_step if_clause_step (Expression-F.MetaProperty word dot name))
@@ -108,6 +121,10 @@ is_MetaProperty y word dot name text setting role h = ap (λ z. breaches_of_expr
 pub shape_MetaProperty : (y : Expression) (word : Token) (dot : Token) (name : Token) → y ≡ e.MetaProperty word dot name → shape_of_expression y ≡ other_shape word.start
 unfolding facts_of_expression breaches_of_expression shape_of_expression
 shape_MetaProperty y word dot name h = ap shape_of_expression h ∙ ap (λ f. f.shape) (ap facts_of_expression (sym (e.rolls-MetaProperty word dot name)) ∙ fold-roll-Expression ClassElementFacts HeritageFacts ExpressionFacts LinkFacts TellingBy ElementFacts PropertyNameFacts Telling Telling Telling TellingAs Telling Telling StatementFacts ClassFacts Telling Telling SubstitutionsFacts FunctionFacts MethodFacts BracketedFacts ElementsFacts NextElementFacts BlockFacts Telling Telling Telling class_element_step heritage_step expression_step link_step concise_body_step element_step property_name_step case_clause_step else_step finalizer_step for_start_step handler_step maybe_expression_step statement_step class_step operand_step substitution_step substitutions_step function_step method_step bracketed_step elements_step next_element_step block_step declaration_step else_if_step if_clause_step (Expression-F.MetaProperty word dot name))
+
+pub names_MetaProperty : (y : Expression) (word : Token) (dot : Token) (name : Token) → y ≡ e.MetaProperty word dot name → names_of_expression y ≡ []
+unfolding facts_of_expression breaches_of_expression shape_of_expression names_of_expression
+names_MetaProperty y word dot name h = ap names_of_expression h ∙ ap (λ f. f.names) (ap facts_of_expression (sym (e.rolls-MetaProperty word dot name)) ∙ fold-roll-Expression ClassElementFacts HeritageFacts ExpressionFacts LinkFacts TellingBy ElementFacts PropertyNameFacts Telling Telling Telling TellingAs Telling Telling StatementFacts ClassFacts Telling Telling SubstitutionsFacts FunctionFacts MethodFacts BracketedFacts ElementsFacts NextElementFacts BlockFacts Telling Telling Telling class_element_step heritage_step expression_step link_step concise_body_step element_step property_name_step case_clause_step else_step finalizer_step for_start_step handler_step maybe_expression_step statement_step class_step operand_step substitution_step substitutions_step function_step method_step bracketed_step elements_step next_element_step block_step declaration_step else_if_step if_clause_step (Expression-F.MetaProperty word dot name))
 
 pub is_ArrayLiteral : (y : Expression) (list : Bracketed) (text : List ℕ) (setting : Setting) (role : Role) → y ≡ e.ArrayLiteral list → breaches_of_expression y text setting role ≡ together (breaches_of_bracketed list text setting (array_role role) ∷ literal_breaches role (shape_of_bracketed list).start ∷ [])
 unfolding facts_of_expression breaches_of_expression shape_of_expression facts_of_bracketed breaches_of_bracketed shape_of_bracketed
@@ -117,6 +134,10 @@ pub shape_ArrayLiteral : (y : Expression) (list : Bracketed) → y ≡ e.ArrayLi
 unfolding facts_of_expression breaches_of_expression shape_of_expression facts_of_bracketed breaches_of_bracketed shape_of_bracketed
 shape_ArrayLiteral y list h = ap shape_of_expression h ∙ ap (λ f. f.shape) (ap facts_of_expression (sym (e.rolls-ArrayLiteral list)) ∙ fold-roll-Expression ClassElementFacts HeritageFacts ExpressionFacts LinkFacts TellingBy ElementFacts PropertyNameFacts Telling Telling Telling TellingAs Telling Telling StatementFacts ClassFacts Telling Telling SubstitutionsFacts FunctionFacts MethodFacts BracketedFacts ElementsFacts NextElementFacts BlockFacts Telling Telling Telling class_element_step heritage_step expression_step link_step concise_body_step element_step property_name_step case_clause_step else_step finalizer_step for_start_step handler_step maybe_expression_step statement_step class_step operand_step substitution_step substitutions_step function_step method_step bracketed_step elements_step next_element_step block_step declaration_step else_if_step if_clause_step (Expression-F.ArrayLiteral list))
 
+pub names_ArrayLiteral : (y : Expression) (list : Bracketed) → y ≡ e.ArrayLiteral list → names_of_expression y ≡ names_of_bracketed list
+unfolding facts_of_expression breaches_of_expression shape_of_expression names_of_expression facts_of_bracketed breaches_of_bracketed shape_of_bracketed names_of_bracketed
+names_ArrayLiteral y list h = ap names_of_expression h ∙ ap (λ f. f.names) (ap facts_of_expression (sym (e.rolls-ArrayLiteral list)) ∙ fold-roll-Expression ClassElementFacts HeritageFacts ExpressionFacts LinkFacts TellingBy ElementFacts PropertyNameFacts Telling Telling Telling TellingAs Telling Telling StatementFacts ClassFacts Telling Telling SubstitutionsFacts FunctionFacts MethodFacts BracketedFacts ElementsFacts NextElementFacts BlockFacts Telling Telling Telling class_element_step heritage_step expression_step link_step concise_body_step element_step property_name_step case_clause_step else_step finalizer_step for_start_step handler_step maybe_expression_step statement_step class_step operand_step substitution_step substitutions_step function_step method_step bracketed_step elements_step next_element_step block_step declaration_step else_if_step if_clause_step (Expression-F.ArrayLiteral list))
+
 pub is_ObjectLiteral : (y : Expression) (list : Bracketed) (text : List ℕ) (setting : Setting) (role : Role) → y ≡ e.ObjectLiteral list → breaches_of_expression y text setting role ≡ together (breaches_of_bracketed list text setting (object_role role) ∷ literal_breaches role (shape_of_bracketed list).start ∷ [])
 unfolding facts_of_expression breaches_of_expression shape_of_expression facts_of_bracketed breaches_of_bracketed shape_of_bracketed
 is_ObjectLiteral y list text setting role h = ap (λ z. breaches_of_expression z text setting role) h ∙ ap (λ f. f.breaches text setting role) (ap facts_of_expression (sym (e.rolls-ObjectLiteral list)) ∙ fold-roll-Expression ClassElementFacts HeritageFacts ExpressionFacts LinkFacts TellingBy ElementFacts PropertyNameFacts Telling Telling Telling TellingAs Telling Telling StatementFacts ClassFacts Telling Telling SubstitutionsFacts FunctionFacts MethodFacts BracketedFacts ElementsFacts NextElementFacts BlockFacts Telling Telling Telling class_element_step heritage_step expression_step link_step concise_body_step element_step property_name_step case_clause_step else_step finalizer_step for_start_step handler_step maybe_expression_step statement_step class_step operand_step substitution_step substitutions_step function_step method_step bracketed_step elements_step next_element_step block_step declaration_step else_if_step if_clause_step (Expression-F.ObjectLiteral list))
@@ -124,6 +145,10 @@ is_ObjectLiteral y list text setting role h = ap (λ z. breaches_of_expression z
 pub shape_ObjectLiteral : (y : Expression) (list : Bracketed) → y ≡ e.ObjectLiteral list → shape_of_expression y ≡ other_shape (shape_of_bracketed list).start
 unfolding facts_of_expression breaches_of_expression shape_of_expression facts_of_bracketed breaches_of_bracketed shape_of_bracketed
 shape_ObjectLiteral y list h = ap shape_of_expression h ∙ ap (λ f. f.shape) (ap facts_of_expression (sym (e.rolls-ObjectLiteral list)) ∙ fold-roll-Expression ClassElementFacts HeritageFacts ExpressionFacts LinkFacts TellingBy ElementFacts PropertyNameFacts Telling Telling Telling TellingAs Telling Telling StatementFacts ClassFacts Telling Telling SubstitutionsFacts FunctionFacts MethodFacts BracketedFacts ElementsFacts NextElementFacts BlockFacts Telling Telling Telling class_element_step heritage_step expression_step link_step concise_body_step element_step property_name_step case_clause_step else_step finalizer_step for_start_step handler_step maybe_expression_step statement_step class_step operand_step substitution_step substitutions_step function_step method_step bracketed_step elements_step next_element_step block_step declaration_step else_if_step if_clause_step (Expression-F.ObjectLiteral list))
+
+pub names_ObjectLiteral : (y : Expression) (list : Bracketed) → y ≡ e.ObjectLiteral list → names_of_expression y ≡ names_of_bracketed list
+unfolding facts_of_expression breaches_of_expression shape_of_expression names_of_expression facts_of_bracketed breaches_of_bracketed shape_of_bracketed names_of_bracketed
+names_ObjectLiteral y list h = ap names_of_expression h ∙ ap (λ f. f.names) (ap facts_of_expression (sym (e.rolls-ObjectLiteral list)) ∙ fold-roll-Expression ClassElementFacts HeritageFacts ExpressionFacts LinkFacts TellingBy ElementFacts PropertyNameFacts Telling Telling Telling TellingAs Telling Telling StatementFacts ClassFacts Telling Telling SubstitutionsFacts FunctionFacts MethodFacts BracketedFacts ElementsFacts NextElementFacts BlockFacts Telling Telling Telling class_element_step heritage_step expression_step link_step concise_body_step element_step property_name_step case_clause_step else_step finalizer_step for_start_step handler_step maybe_expression_step statement_step class_step operand_step substitution_step substitutions_step function_step method_step bracketed_step elements_step next_element_step block_step declaration_step else_if_step if_clause_step (Expression-F.ObjectLiteral list))
 
 pub is_Parenthesized : (y : Expression) (list : Bracketed) (text : List ℕ) (setting : Setting) (role : Role) → y ≡ e.Parenthesized list → breaches_of_expression y text setting role ≡ together (breaches_of_bracketed list text setting (parenthesized_role role) ∷ parenthesized_breaches text role (shape_of_bracketed list) ∷ [])
 unfolding facts_of_expression breaches_of_expression shape_of_expression facts_of_bracketed breaches_of_bracketed shape_of_bracketed
@@ -133,6 +158,10 @@ pub shape_Parenthesized : (y : Expression) (list : Bracketed) → y ≡ e.Parent
 unfolding facts_of_expression breaches_of_expression shape_of_expression facts_of_bracketed breaches_of_bracketed shape_of_bracketed
 shape_Parenthesized y list h = ap shape_of_expression h ∙ ap (λ f. f.shape) (ap facts_of_expression (sym (e.rolls-Parenthesized list)) ∙ fold-roll-Expression ClassElementFacts HeritageFacts ExpressionFacts LinkFacts TellingBy ElementFacts PropertyNameFacts Telling Telling Telling TellingAs Telling Telling StatementFacts ClassFacts Telling Telling SubstitutionsFacts FunctionFacts MethodFacts BracketedFacts ElementsFacts NextElementFacts BlockFacts Telling Telling Telling class_element_step heritage_step expression_step link_step concise_body_step element_step property_name_step case_clause_step else_step finalizer_step for_start_step handler_step maybe_expression_step statement_step class_step operand_step substitution_step substitutions_step function_step method_step bracketed_step elements_step next_element_step block_step declaration_step else_if_step if_clause_step (Expression-F.Parenthesized list))
 
+pub names_Parenthesized : (y : Expression) (list : Bracketed) → y ≡ e.Parenthesized list → names_of_expression y ≡ names_of_bracketed list
+unfolding facts_of_expression breaches_of_expression shape_of_expression names_of_expression facts_of_bracketed breaches_of_bracketed shape_of_bracketed names_of_bracketed
+names_Parenthesized y list h = ap names_of_expression h ∙ ap (λ f. f.names) (ap facts_of_expression (sym (e.rolls-Parenthesized list)) ∙ fold-roll-Expression ClassElementFacts HeritageFacts ExpressionFacts LinkFacts TellingBy ElementFacts PropertyNameFacts Telling Telling Telling TellingAs Telling Telling StatementFacts ClassFacts Telling Telling SubstitutionsFacts FunctionFacts MethodFacts BracketedFacts ElementsFacts NextElementFacts BlockFacts Telling Telling Telling class_element_step heritage_step expression_step link_step concise_body_step element_step property_name_step case_clause_step else_step finalizer_step for_start_step handler_step maybe_expression_step statement_step class_step operand_step substitution_step substitutions_step function_step method_step bracketed_step elements_step next_element_step block_step declaration_step else_if_step if_clause_step (Expression-F.Parenthesized list))
+
 pub is_TemplateLiteral : (y : Expression) (template : Substitutions) (text : List ℕ) (setting : Setting) (role : Role) → y ≡ e.TemplateLiteral template → breaches_of_expression y text setting role ≡ together (breaches_of_substitutions template text setting ∷ value_breaches role (shape_of_substitutions template) ∷ [])
 unfolding facts_of_expression breaches_of_expression shape_of_expression facts_of_substitutions breaches_of_substitutions shape_of_substitutions
 is_TemplateLiteral y template text setting role h = ap (λ z. breaches_of_expression z text setting role) h ∙ ap (λ f. f.breaches text setting role) (ap facts_of_expression (sym (e.rolls-TemplateLiteral template)) ∙ fold-roll-Expression ClassElementFacts HeritageFacts ExpressionFacts LinkFacts TellingBy ElementFacts PropertyNameFacts Telling Telling Telling TellingAs Telling Telling StatementFacts ClassFacts Telling Telling SubstitutionsFacts FunctionFacts MethodFacts BracketedFacts ElementsFacts NextElementFacts BlockFacts Telling Telling Telling class_element_step heritage_step expression_step link_step concise_body_step element_step property_name_step case_clause_step else_step finalizer_step for_start_step handler_step maybe_expression_step statement_step class_step operand_step substitution_step substitutions_step function_step method_step bracketed_step elements_step next_element_step block_step declaration_step else_if_step if_clause_step (Expression-F.TemplateLiteral template))
@@ -140,6 +169,10 @@ is_TemplateLiteral y template text setting role h = ap (λ z. breaches_of_expres
 pub shape_TemplateLiteral : (y : Expression) (template : Substitutions) → y ≡ e.TemplateLiteral template → shape_of_expression y ≡ other_shape (shape_of_substitutions template)
 unfolding facts_of_expression breaches_of_expression shape_of_expression facts_of_substitutions breaches_of_substitutions shape_of_substitutions
 shape_TemplateLiteral y template h = ap shape_of_expression h ∙ ap (λ f. f.shape) (ap facts_of_expression (sym (e.rolls-TemplateLiteral template)) ∙ fold-roll-Expression ClassElementFacts HeritageFacts ExpressionFacts LinkFacts TellingBy ElementFacts PropertyNameFacts Telling Telling Telling TellingAs Telling Telling StatementFacts ClassFacts Telling Telling SubstitutionsFacts FunctionFacts MethodFacts BracketedFacts ElementsFacts NextElementFacts BlockFacts Telling Telling Telling class_element_step heritage_step expression_step link_step concise_body_step element_step property_name_step case_clause_step else_step finalizer_step for_start_step handler_step maybe_expression_step statement_step class_step operand_step substitution_step substitutions_step function_step method_step bracketed_step elements_step next_element_step block_step declaration_step else_if_step if_clause_step (Expression-F.TemplateLiteral template))
+
+pub names_TemplateLiteral : (y : Expression) (template : Substitutions) → y ≡ e.TemplateLiteral template → names_of_expression y ≡ []
+unfolding facts_of_expression breaches_of_expression shape_of_expression names_of_expression facts_of_substitutions breaches_of_substitutions shape_of_substitutions
+names_TemplateLiteral y template h = ap names_of_expression h ∙ ap (λ f. f.names) (ap facts_of_expression (sym (e.rolls-TemplateLiteral template)) ∙ fold-roll-Expression ClassElementFacts HeritageFacts ExpressionFacts LinkFacts TellingBy ElementFacts PropertyNameFacts Telling Telling Telling TellingAs Telling Telling StatementFacts ClassFacts Telling Telling SubstitutionsFacts FunctionFacts MethodFacts BracketedFacts ElementsFacts NextElementFacts BlockFacts Telling Telling Telling class_element_step heritage_step expression_step link_step concise_body_step element_step property_name_step case_clause_step else_step finalizer_step for_start_step handler_step maybe_expression_step statement_step class_step operand_step substitution_step substitutions_step function_step method_step bracketed_step elements_step next_element_step block_step declaration_step else_if_step if_clause_step (Expression-F.TemplateLiteral template))
 
 pub is_FunctionExpression : (y : Expression) (function : Function) (text : List ℕ) (setting : Setting) (role : Role) → y ≡ e.FunctionExpression function → breaches_of_expression y text setting role ≡ together (breaches_of_function function text setting ∷ value_breaches role (shape_of_function function) ∷ [])
 unfolding facts_of_expression breaches_of_expression shape_of_expression facts_of_function breaches_of_function shape_of_function
@@ -149,6 +182,10 @@ pub shape_FunctionExpression : (y : Expression) (function : Function) → y ≡ 
 unfolding facts_of_expression breaches_of_expression shape_of_expression facts_of_function breaches_of_function shape_of_function
 shape_FunctionExpression y function h = ap shape_of_expression h ∙ ap (λ f. f.shape) (ap facts_of_expression (sym (e.rolls-FunctionExpression function)) ∙ fold-roll-Expression ClassElementFacts HeritageFacts ExpressionFacts LinkFacts TellingBy ElementFacts PropertyNameFacts Telling Telling Telling TellingAs Telling Telling StatementFacts ClassFacts Telling Telling SubstitutionsFacts FunctionFacts MethodFacts BracketedFacts ElementsFacts NextElementFacts BlockFacts Telling Telling Telling class_element_step heritage_step expression_step link_step concise_body_step element_step property_name_step case_clause_step else_step finalizer_step for_start_step handler_step maybe_expression_step statement_step class_step operand_step substitution_step substitutions_step function_step method_step bracketed_step elements_step next_element_step block_step declaration_step else_if_step if_clause_step (Expression-F.FunctionExpression function))
 
+pub names_FunctionExpression : (y : Expression) (function : Function) → y ≡ e.FunctionExpression function → names_of_expression y ≡ []
+unfolding facts_of_expression breaches_of_expression shape_of_expression names_of_expression facts_of_function breaches_of_function shape_of_function
+names_FunctionExpression y function h = ap names_of_expression h ∙ ap (λ f. f.names) (ap facts_of_expression (sym (e.rolls-FunctionExpression function)) ∙ fold-roll-Expression ClassElementFacts HeritageFacts ExpressionFacts LinkFacts TellingBy ElementFacts PropertyNameFacts Telling Telling Telling TellingAs Telling Telling StatementFacts ClassFacts Telling Telling SubstitutionsFacts FunctionFacts MethodFacts BracketedFacts ElementsFacts NextElementFacts BlockFacts Telling Telling Telling class_element_step heritage_step expression_step link_step concise_body_step element_step property_name_step case_clause_step else_step finalizer_step for_start_step handler_step maybe_expression_step statement_step class_step operand_step substitution_step substitutions_step function_step method_step bracketed_step elements_step next_element_step block_step declaration_step else_if_step if_clause_step (Expression-F.FunctionExpression function))
+
 pub is_ClassExpression : (y : Expression) (class : Class) (text : List ℕ) (setting : Setting) (role : Role) → y ≡ e.ClassExpression class → breaches_of_expression y text setting role ≡ together (breaches_of_class class text setting ∷ value_breaches role (shape_of_class class) ∷ [])
 unfolding facts_of_expression breaches_of_expression shape_of_expression facts_of_class breaches_of_class shape_of_class
 is_ClassExpression y class text setting role h = ap (λ z. breaches_of_expression z text setting role) h ∙ ap (λ f. f.breaches text setting role) (ap facts_of_expression (sym (e.rolls-ClassExpression class)) ∙ fold-roll-Expression ClassElementFacts HeritageFacts ExpressionFacts LinkFacts TellingBy ElementFacts PropertyNameFacts Telling Telling Telling TellingAs Telling Telling StatementFacts ClassFacts Telling Telling SubstitutionsFacts FunctionFacts MethodFacts BracketedFacts ElementsFacts NextElementFacts BlockFacts Telling Telling Telling class_element_step heritage_step expression_step link_step concise_body_step element_step property_name_step case_clause_step else_step finalizer_step for_start_step handler_step maybe_expression_step statement_step class_step operand_step substitution_step substitutions_step function_step method_step bracketed_step elements_step next_element_step block_step declaration_step else_if_step if_clause_step (Expression-F.ClassExpression class))
@@ -156,6 +193,10 @@ is_ClassExpression y class text setting role h = ap (λ z. breaches_of_expressio
 pub shape_ClassExpression : (y : Expression) (class : Class) → y ≡ e.ClassExpression class → shape_of_expression y ≡ other_shape (shape_of_class class)
 unfolding facts_of_expression breaches_of_expression shape_of_expression facts_of_class breaches_of_class shape_of_class
 shape_ClassExpression y class h = ap shape_of_expression h ∙ ap (λ f. f.shape) (ap facts_of_expression (sym (e.rolls-ClassExpression class)) ∙ fold-roll-Expression ClassElementFacts HeritageFacts ExpressionFacts LinkFacts TellingBy ElementFacts PropertyNameFacts Telling Telling Telling TellingAs Telling Telling StatementFacts ClassFacts Telling Telling SubstitutionsFacts FunctionFacts MethodFacts BracketedFacts ElementsFacts NextElementFacts BlockFacts Telling Telling Telling class_element_step heritage_step expression_step link_step concise_body_step element_step property_name_step case_clause_step else_step finalizer_step for_start_step handler_step maybe_expression_step statement_step class_step operand_step substitution_step substitutions_step function_step method_step bracketed_step elements_step next_element_step block_step declaration_step else_if_step if_clause_step (Expression-F.ClassExpression class))
+
+pub names_ClassExpression : (y : Expression) (class : Class) → y ≡ e.ClassExpression class → names_of_expression y ≡ []
+unfolding facts_of_expression breaches_of_expression shape_of_expression names_of_expression facts_of_class breaches_of_class shape_of_class
+names_ClassExpression y class h = ap names_of_expression h ∙ ap (λ f. f.names) (ap facts_of_expression (sym (e.rolls-ClassExpression class)) ∙ fold-roll-Expression ClassElementFacts HeritageFacts ExpressionFacts LinkFacts TellingBy ElementFacts PropertyNameFacts Telling Telling Telling TellingAs Telling Telling StatementFacts ClassFacts Telling Telling SubstitutionsFacts FunctionFacts MethodFacts BracketedFacts ElementsFacts NextElementFacts BlockFacts Telling Telling Telling class_element_step heritage_step expression_step link_step concise_body_step element_step property_name_step case_clause_step else_step finalizer_step for_start_step handler_step maybe_expression_step statement_step class_step operand_step substitution_step substitutions_step function_step method_step bracketed_step elements_step next_element_step block_step declaration_step else_if_step if_clause_step (Expression-F.ClassExpression class))
 
 pub is_Member : (y : Expression) (object : Expression) (links : List Link) (text : List ℕ) (setting : Setting) (role : Role) → y ≡ e.Member object links → breaches_of_expression y text setting role ≡ together (breaches_of_expression object text setting r.Value ∷ links_breaches text setting role (map facts_of_link links) ∷ super_breaches (shape_of_expression object).token (links_shape (map (λ f. f.shape) (map facts_of_link links))).begins_with_call setting ∷ member_breaches role (links_shape (map (λ f. f.shape) (map facts_of_link links))) (shape_of_expression object).start ∷ [])
 unfolding facts_of_expression breaches_of_expression shape_of_expression facts_of_link breaches_of_link shape_of_link
@@ -165,6 +206,10 @@ pub shape_Member : (y : Expression) (object : Expression) (links : List Link) �
 unfolding facts_of_expression breaches_of_expression shape_of_expression facts_of_link breaches_of_link shape_of_link
 shape_Member y object links h = ap shape_of_expression h ∙ ap (λ f. f.shape) (ap facts_of_expression (sym (e.rolls-Member object links)) ∙ fold-roll-Expression ClassElementFacts HeritageFacts ExpressionFacts LinkFacts TellingBy ElementFacts PropertyNameFacts Telling Telling Telling TellingAs Telling Telling StatementFacts ClassFacts Telling Telling SubstitutionsFacts FunctionFacts MethodFacts BracketedFacts ElementsFacts NextElementFacts BlockFacts Telling Telling Telling class_element_step heritage_step expression_step link_step concise_body_step element_step property_name_step case_clause_step else_step finalizer_step for_start_step handler_step maybe_expression_step statement_step class_step operand_step substitution_step substitutions_step function_step method_step bracketed_step elements_step next_element_step block_step declaration_step else_if_step if_clause_step (Expression-F.Member object links))
 
+pub names_Member : (y : Expression) (object : Expression) (links : List Link) → y ≡ e.Member object links → names_of_expression y ≡ joined (map (λ f. f.names) (map facts_of_link links))
+unfolding facts_of_expression breaches_of_expression shape_of_expression names_of_expression facts_of_link breaches_of_link shape_of_link names_of_link
+names_Member y object links h = ap names_of_expression h ∙ ap (λ f. f.names) (ap facts_of_expression (sym (e.rolls-Member object links)) ∙ fold-roll-Expression ClassElementFacts HeritageFacts ExpressionFacts LinkFacts TellingBy ElementFacts PropertyNameFacts Telling Telling Telling TellingAs Telling Telling StatementFacts ClassFacts Telling Telling SubstitutionsFacts FunctionFacts MethodFacts BracketedFacts ElementsFacts NextElementFacts BlockFacts Telling Telling Telling class_element_step heritage_step expression_step link_step concise_body_step element_step property_name_step case_clause_step else_step finalizer_step for_start_step handler_step maybe_expression_step statement_step class_step operand_step substitution_step substitutions_step function_step method_step bracketed_step elements_step next_element_step block_step declaration_step else_if_step if_clause_step (Expression-F.Member object links))
+
 pub is_New : (y : Expression) (word : Token) (callee : Expression) (arguments : Bracketed) (text : List ℕ) (setting : Setting) (role : Role) → y ≡ e.New word callee arguments → breaches_of_expression y text setting role ≡ together (breaches_of_expression callee text setting r.Value ∷ breaches_of_bracketed arguments text setting lr.Values ∷ value_breaches role word.start ∷ [])
 unfolding facts_of_expression breaches_of_expression shape_of_expression facts_of_bracketed breaches_of_bracketed shape_of_bracketed
 is_New y word callee arguments text setting role h = ap (λ z. breaches_of_expression z text setting role) h ∙ ap (λ f. f.breaches text setting role) (ap facts_of_expression (sym (e.rolls-New word callee arguments)) ∙ fold-roll-Expression ClassElementFacts HeritageFacts ExpressionFacts LinkFacts TellingBy ElementFacts PropertyNameFacts Telling Telling Telling TellingAs Telling Telling StatementFacts ClassFacts Telling Telling SubstitutionsFacts FunctionFacts MethodFacts BracketedFacts ElementsFacts NextElementFacts BlockFacts Telling Telling Telling class_element_step heritage_step expression_step link_step concise_body_step element_step property_name_step case_clause_step else_step finalizer_step for_start_step handler_step maybe_expression_step statement_step class_step operand_step substitution_step substitutions_step function_step method_step bracketed_step elements_step next_element_step block_step declaration_step else_if_step if_clause_step (Expression-F.New word callee arguments))
@@ -172,6 +217,10 @@ is_New y word callee arguments text setting role h = ap (λ z. breaches_of_expre
 pub shape_New : (y : Expression) (word : Token) (callee : Expression) (arguments : Bracketed) → y ≡ e.New word callee arguments → shape_of_expression y ≡ other_shape word.start
 unfolding facts_of_expression breaches_of_expression shape_of_expression facts_of_bracketed breaches_of_bracketed shape_of_bracketed
 shape_New y word callee arguments h = ap shape_of_expression h ∙ ap (λ f. f.shape) (ap facts_of_expression (sym (e.rolls-New word callee arguments)) ∙ fold-roll-Expression ClassElementFacts HeritageFacts ExpressionFacts LinkFacts TellingBy ElementFacts PropertyNameFacts Telling Telling Telling TellingAs Telling Telling StatementFacts ClassFacts Telling Telling SubstitutionsFacts FunctionFacts MethodFacts BracketedFacts ElementsFacts NextElementFacts BlockFacts Telling Telling Telling class_element_step heritage_step expression_step link_step concise_body_step element_step property_name_step case_clause_step else_step finalizer_step for_start_step handler_step maybe_expression_step statement_step class_step operand_step substitution_step substitutions_step function_step method_step bracketed_step elements_step next_element_step block_step declaration_step else_if_step if_clause_step (Expression-F.New word callee arguments))
+
+pub names_New : (y : Expression) (word : Token) (callee : Expression) (arguments : Bracketed) → y ≡ e.New word callee arguments → names_of_expression y ≡ []
+unfolding facts_of_expression breaches_of_expression shape_of_expression names_of_expression facts_of_bracketed breaches_of_bracketed shape_of_bracketed names_of_bracketed
+names_New y word callee arguments h = ap names_of_expression h ∙ ap (λ f. f.names) (ap facts_of_expression (sym (e.rolls-New word callee arguments)) ∙ fold-roll-Expression ClassElementFacts HeritageFacts ExpressionFacts LinkFacts TellingBy ElementFacts PropertyNameFacts Telling Telling Telling TellingAs Telling Telling StatementFacts ClassFacts Telling Telling SubstitutionsFacts FunctionFacts MethodFacts BracketedFacts ElementsFacts NextElementFacts BlockFacts Telling Telling Telling class_element_step heritage_step expression_step link_step concise_body_step element_step property_name_step case_clause_step else_step finalizer_step for_start_step handler_step maybe_expression_step statement_step class_step operand_step substitution_step substitutions_step function_step method_step bracketed_step elements_step next_element_step block_step declaration_step else_if_step if_clause_step (Expression-F.New word callee arguments))
 
 pub is_NewPlain : (y : Expression) (word : Token) (callee : Expression) (text : List ℕ) (setting : Setting) (role : Role) → y ≡ e.NewPlain word callee → breaches_of_expression y text setting role ≡ together (breaches_of_expression callee text setting r.Value ∷ value_breaches role word.start ∷ [])
 unfolding facts_of_expression breaches_of_expression shape_of_expression
@@ -181,6 +230,10 @@ pub shape_NewPlain : (y : Expression) (word : Token) (callee : Expression) → y
 unfolding facts_of_expression breaches_of_expression shape_of_expression
 shape_NewPlain y word callee h = ap shape_of_expression h ∙ ap (λ f. f.shape) (ap facts_of_expression (sym (e.rolls-NewPlain word callee)) ∙ fold-roll-Expression ClassElementFacts HeritageFacts ExpressionFacts LinkFacts TellingBy ElementFacts PropertyNameFacts Telling Telling Telling TellingAs Telling Telling StatementFacts ClassFacts Telling Telling SubstitutionsFacts FunctionFacts MethodFacts BracketedFacts ElementsFacts NextElementFacts BlockFacts Telling Telling Telling class_element_step heritage_step expression_step link_step concise_body_step element_step property_name_step case_clause_step else_step finalizer_step for_start_step handler_step maybe_expression_step statement_step class_step operand_step substitution_step substitutions_step function_step method_step bracketed_step elements_step next_element_step block_step declaration_step else_if_step if_clause_step (Expression-F.NewPlain word callee))
 
+pub names_NewPlain : (y : Expression) (word : Token) (callee : Expression) → y ≡ e.NewPlain word callee → names_of_expression y ≡ []
+unfolding facts_of_expression breaches_of_expression shape_of_expression names_of_expression
+names_NewPlain y word callee h = ap names_of_expression h ∙ ap (λ f. f.names) (ap facts_of_expression (sym (e.rolls-NewPlain word callee)) ∙ fold-roll-Expression ClassElementFacts HeritageFacts ExpressionFacts LinkFacts TellingBy ElementFacts PropertyNameFacts Telling Telling Telling TellingAs Telling Telling StatementFacts ClassFacts Telling Telling SubstitutionsFacts FunctionFacts MethodFacts BracketedFacts ElementsFacts NextElementFacts BlockFacts Telling Telling Telling class_element_step heritage_step expression_step link_step concise_body_step element_step property_name_step case_clause_step else_step finalizer_step for_start_step handler_step maybe_expression_step statement_step class_step operand_step substitution_step substitutions_step function_step method_step bracketed_step elements_step next_element_step block_step declaration_step else_if_step if_clause_step (Expression-F.NewPlain word callee))
+
 pub is_ImportCall : (y : Expression) (word : Token) (begin : Token) (x : Expression) (ending : Token) (text : List ℕ) (setting : Setting) (role : Role) → y ≡ e.ImportCall word begin x ending → breaches_of_expression y text setting role ≡ together (breaches_of_expression x text setting r.Value ∷ value_breaches role word.start ∷ [])
 unfolding facts_of_expression breaches_of_expression shape_of_expression
 is_ImportCall y word begin x ending text setting role h = ap (λ z. breaches_of_expression z text setting role) h ∙ ap (λ f. f.breaches text setting role) (ap facts_of_expression (sym (e.rolls-ImportCall word begin x ending)) ∙ fold-roll-Expression ClassElementFacts HeritageFacts ExpressionFacts LinkFacts TellingBy ElementFacts PropertyNameFacts Telling Telling Telling TellingAs Telling Telling StatementFacts ClassFacts Telling Telling SubstitutionsFacts FunctionFacts MethodFacts BracketedFacts ElementsFacts NextElementFacts BlockFacts Telling Telling Telling class_element_step heritage_step expression_step link_step concise_body_step element_step property_name_step case_clause_step else_step finalizer_step for_start_step handler_step maybe_expression_step statement_step class_step operand_step substitution_step substitutions_step function_step method_step bracketed_step elements_step next_element_step block_step declaration_step else_if_step if_clause_step (Expression-F.ImportCall word begin x ending))
@@ -188,6 +241,10 @@ is_ImportCall y word begin x ending text setting role h = ap (λ z. breaches_of_
 pub shape_ImportCall : (y : Expression) (word : Token) (begin : Token) (x : Expression) (ending : Token) → y ≡ e.ImportCall word begin x ending → shape_of_expression y ≡ other_shape word.start
 unfolding facts_of_expression breaches_of_expression shape_of_expression
 shape_ImportCall y word begin x ending h = ap shape_of_expression h ∙ ap (λ f. f.shape) (ap facts_of_expression (sym (e.rolls-ImportCall word begin x ending)) ∙ fold-roll-Expression ClassElementFacts HeritageFacts ExpressionFacts LinkFacts TellingBy ElementFacts PropertyNameFacts Telling Telling Telling TellingAs Telling Telling StatementFacts ClassFacts Telling Telling SubstitutionsFacts FunctionFacts MethodFacts BracketedFacts ElementsFacts NextElementFacts BlockFacts Telling Telling Telling class_element_step heritage_step expression_step link_step concise_body_step element_step property_name_step case_clause_step else_step finalizer_step for_start_step handler_step maybe_expression_step statement_step class_step operand_step substitution_step substitutions_step function_step method_step bracketed_step elements_step next_element_step block_step declaration_step else_if_step if_clause_step (Expression-F.ImportCall word begin x ending))
+
+pub names_ImportCall : (y : Expression) (word : Token) (begin : Token) (x : Expression) (ending : Token) → y ≡ e.ImportCall word begin x ending → names_of_expression y ≡ []
+unfolding facts_of_expression breaches_of_expression shape_of_expression names_of_expression
+names_ImportCall y word begin x ending h = ap names_of_expression h ∙ ap (λ f. f.names) (ap facts_of_expression (sym (e.rolls-ImportCall word begin x ending)) ∙ fold-roll-Expression ClassElementFacts HeritageFacts ExpressionFacts LinkFacts TellingBy ElementFacts PropertyNameFacts Telling Telling Telling TellingAs Telling Telling StatementFacts ClassFacts Telling Telling SubstitutionsFacts FunctionFacts MethodFacts BracketedFacts ElementsFacts NextElementFacts BlockFacts Telling Telling Telling class_element_step heritage_step expression_step link_step concise_body_step element_step property_name_step case_clause_step else_step finalizer_step for_start_step handler_step maybe_expression_step statement_step class_step operand_step substitution_step substitutions_step function_step method_step bracketed_step elements_step next_element_step block_step declaration_step else_if_step if_clause_step (Expression-F.ImportCall word begin x ending))
 
 pub is_PrefixUpdate : (y : Expression) (operator : Token) (x : Expression) (text : List ℕ) (setting : Setting) (role : Role) → y ≡ e.PrefixUpdate operator x → breaches_of_expression y text setting role ≡ together (breaches_of_expression x text setting r.Simple ∷ value_breaches role operator.start ∷ [])
 unfolding facts_of_expression breaches_of_expression shape_of_expression
@@ -197,6 +254,10 @@ pub shape_PrefixUpdate : (y : Expression) (operator : Token) (x : Expression) �
 unfolding facts_of_expression breaches_of_expression shape_of_expression
 shape_PrefixUpdate y operator x h = ap shape_of_expression h ∙ ap (λ f. f.shape) (ap facts_of_expression (sym (e.rolls-PrefixUpdate operator x)) ∙ fold-roll-Expression ClassElementFacts HeritageFacts ExpressionFacts LinkFacts TellingBy ElementFacts PropertyNameFacts Telling Telling Telling TellingAs Telling Telling StatementFacts ClassFacts Telling Telling SubstitutionsFacts FunctionFacts MethodFacts BracketedFacts ElementsFacts NextElementFacts BlockFacts Telling Telling Telling class_element_step heritage_step expression_step link_step concise_body_step element_step property_name_step case_clause_step else_step finalizer_step for_start_step handler_step maybe_expression_step statement_step class_step operand_step substitution_step substitutions_step function_step method_step bracketed_step elements_step next_element_step block_step declaration_step else_if_step if_clause_step (Expression-F.PrefixUpdate operator x))
 
+pub names_PrefixUpdate : (y : Expression) (operator : Token) (x : Expression) → y ≡ e.PrefixUpdate operator x → names_of_expression y ≡ []
+unfolding facts_of_expression breaches_of_expression shape_of_expression names_of_expression
+names_PrefixUpdate y operator x h = ap names_of_expression h ∙ ap (λ f. f.names) (ap facts_of_expression (sym (e.rolls-PrefixUpdate operator x)) ∙ fold-roll-Expression ClassElementFacts HeritageFacts ExpressionFacts LinkFacts TellingBy ElementFacts PropertyNameFacts Telling Telling Telling TellingAs Telling Telling StatementFacts ClassFacts Telling Telling SubstitutionsFacts FunctionFacts MethodFacts BracketedFacts ElementsFacts NextElementFacts BlockFacts Telling Telling Telling class_element_step heritage_step expression_step link_step concise_body_step element_step property_name_step case_clause_step else_step finalizer_step for_start_step handler_step maybe_expression_step statement_step class_step operand_step substitution_step substitutions_step function_step method_step bracketed_step elements_step next_element_step block_step declaration_step else_if_step if_clause_step (Expression-F.PrefixUpdate operator x))
+
 pub is_PostfixUpdate : (y : Expression) (x : Expression) (operator : Token) (text : List ℕ) (setting : Setting) (role : Role) → y ≡ e.PostfixUpdate x operator → breaches_of_expression y text setting role ≡ together (breaches_of_expression x text setting r.Simple ∷ value_breaches role (shape_of_expression x).start ∷ [])
 unfolding facts_of_expression breaches_of_expression shape_of_expression
 is_PostfixUpdate y x operator text setting role h = ap (λ z. breaches_of_expression z text setting role) h ∙ ap (λ f. f.breaches text setting role) (ap facts_of_expression (sym (e.rolls-PostfixUpdate x operator)) ∙ fold-roll-Expression ClassElementFacts HeritageFacts ExpressionFacts LinkFacts TellingBy ElementFacts PropertyNameFacts Telling Telling Telling TellingAs Telling Telling StatementFacts ClassFacts Telling Telling SubstitutionsFacts FunctionFacts MethodFacts BracketedFacts ElementsFacts NextElementFacts BlockFacts Telling Telling Telling class_element_step heritage_step expression_step link_step concise_body_step element_step property_name_step case_clause_step else_step finalizer_step for_start_step handler_step maybe_expression_step statement_step class_step operand_step substitution_step substitutions_step function_step method_step bracketed_step elements_step next_element_step block_step declaration_step else_if_step if_clause_step (Expression-F.PostfixUpdate x operator))
@@ -204,6 +265,10 @@ is_PostfixUpdate y x operator text setting role h = ap (λ z. breaches_of_expres
 pub shape_PostfixUpdate : (y : Expression) (x : Expression) (operator : Token) → y ≡ e.PostfixUpdate x operator → shape_of_expression y ≡ other_shape (shape_of_expression x).start
 unfolding facts_of_expression breaches_of_expression shape_of_expression
 shape_PostfixUpdate y x operator h = ap shape_of_expression h ∙ ap (λ f. f.shape) (ap facts_of_expression (sym (e.rolls-PostfixUpdate x operator)) ∙ fold-roll-Expression ClassElementFacts HeritageFacts ExpressionFacts LinkFacts TellingBy ElementFacts PropertyNameFacts Telling Telling Telling TellingAs Telling Telling StatementFacts ClassFacts Telling Telling SubstitutionsFacts FunctionFacts MethodFacts BracketedFacts ElementsFacts NextElementFacts BlockFacts Telling Telling Telling class_element_step heritage_step expression_step link_step concise_body_step element_step property_name_step case_clause_step else_step finalizer_step for_start_step handler_step maybe_expression_step statement_step class_step operand_step substitution_step substitutions_step function_step method_step bracketed_step elements_step next_element_step block_step declaration_step else_if_step if_clause_step (Expression-F.PostfixUpdate x operator))
+
+pub names_PostfixUpdate : (y : Expression) (x : Expression) (operator : Token) → y ≡ e.PostfixUpdate x operator → names_of_expression y ≡ []
+unfolding facts_of_expression breaches_of_expression shape_of_expression names_of_expression
+names_PostfixUpdate y x operator h = ap names_of_expression h ∙ ap (λ f. f.names) (ap facts_of_expression (sym (e.rolls-PostfixUpdate x operator)) ∙ fold-roll-Expression ClassElementFacts HeritageFacts ExpressionFacts LinkFacts TellingBy ElementFacts PropertyNameFacts Telling Telling Telling TellingAs Telling Telling StatementFacts ClassFacts Telling Telling SubstitutionsFacts FunctionFacts MethodFacts BracketedFacts ElementsFacts NextElementFacts BlockFacts Telling Telling Telling class_element_step heritage_step expression_step link_step concise_body_step element_step property_name_step case_clause_step else_step finalizer_step for_start_step handler_step maybe_expression_step statement_step class_step operand_step substitution_step substitutions_step function_step method_step bracketed_step elements_step next_element_step block_step declaration_step else_if_step if_clause_step (Expression-F.PostfixUpdate x operator))
 
 pub is_Unary : (y : Expression) (operator : Token) (x : Expression) (text : List ℕ) (setting : Setting) (role : Role) → y ≡ e.Unary operator x → breaches_of_expression y text setting role ≡ together (breaches_of_expression x text setting r.Value ∷ delete_breaches operator (shape_of_expression x).name ∷ value_breaches role operator.start ∷ [])
 unfolding facts_of_expression breaches_of_expression shape_of_expression
@@ -213,6 +278,10 @@ pub shape_Unary : (y : Expression) (operator : Token) (x : Expression) → y ≡
 unfolding facts_of_expression breaches_of_expression shape_of_expression
 shape_Unary y operator x h = ap shape_of_expression h ∙ ap (λ f. f.shape) (ap facts_of_expression (sym (e.rolls-Unary operator x)) ∙ fold-roll-Expression ClassElementFacts HeritageFacts ExpressionFacts LinkFacts TellingBy ElementFacts PropertyNameFacts Telling Telling Telling TellingAs Telling Telling StatementFacts ClassFacts Telling Telling SubstitutionsFacts FunctionFacts MethodFacts BracketedFacts ElementsFacts NextElementFacts BlockFacts Telling Telling Telling class_element_step heritage_step expression_step link_step concise_body_step element_step property_name_step case_clause_step else_step finalizer_step for_start_step handler_step maybe_expression_step statement_step class_step operand_step substitution_step substitutions_step function_step method_step bracketed_step elements_step next_element_step block_step declaration_step else_if_step if_clause_step (Expression-F.Unary operator x))
 
+pub names_Unary : (y : Expression) (operator : Token) (x : Expression) → y ≡ e.Unary operator x → names_of_expression y ≡ []
+unfolding facts_of_expression breaches_of_expression shape_of_expression names_of_expression
+names_Unary y operator x h = ap names_of_expression h ∙ ap (λ f. f.names) (ap facts_of_expression (sym (e.rolls-Unary operator x)) ∙ fold-roll-Expression ClassElementFacts HeritageFacts ExpressionFacts LinkFacts TellingBy ElementFacts PropertyNameFacts Telling Telling Telling TellingAs Telling Telling StatementFacts ClassFacts Telling Telling SubstitutionsFacts FunctionFacts MethodFacts BracketedFacts ElementsFacts NextElementFacts BlockFacts Telling Telling Telling class_element_step heritage_step expression_step link_step concise_body_step element_step property_name_step case_clause_step else_step finalizer_step for_start_step handler_step maybe_expression_step statement_step class_step operand_step substitution_step substitutions_step function_step method_step bracketed_step elements_step next_element_step block_step declaration_step else_if_step if_clause_step (Expression-F.Unary operator x))
+
 pub is_Await : (y : Expression) (word : Token) (x : Expression) (text : List ℕ) (setting : Setting) (role : Role) → y ≡ e.Await word x → breaches_of_expression y text setting role ≡ together (breaches_of_expression x text setting r.Value ∷ operator_breaches word setting ∷ value_breaches role word.start ∷ [])
 unfolding facts_of_expression breaches_of_expression shape_of_expression
 is_Await y word x text setting role h = ap (λ z. breaches_of_expression z text setting role) h ∙ ap (λ f. f.breaches text setting role) (ap facts_of_expression (sym (e.rolls-Await word x)) ∙ fold-roll-Expression ClassElementFacts HeritageFacts ExpressionFacts LinkFacts TellingBy ElementFacts PropertyNameFacts Telling Telling Telling TellingAs Telling Telling StatementFacts ClassFacts Telling Telling SubstitutionsFacts FunctionFacts MethodFacts BracketedFacts ElementsFacts NextElementFacts BlockFacts Telling Telling Telling class_element_step heritage_step expression_step link_step concise_body_step element_step property_name_step case_clause_step else_step finalizer_step for_start_step handler_step maybe_expression_step statement_step class_step operand_step substitution_step substitutions_step function_step method_step bracketed_step elements_step next_element_step block_step declaration_step else_if_step if_clause_step (Expression-F.Await word x))
@@ -220,6 +289,10 @@ is_Await y word x text setting role h = ap (λ z. breaches_of_expression z text 
 pub shape_Await : (y : Expression) (word : Token) (x : Expression) → y ≡ e.Await word x → shape_of_expression y ≡ other_shape word.start
 unfolding facts_of_expression breaches_of_expression shape_of_expression
 shape_Await y word x h = ap shape_of_expression h ∙ ap (λ f. f.shape) (ap facts_of_expression (sym (e.rolls-Await word x)) ∙ fold-roll-Expression ClassElementFacts HeritageFacts ExpressionFacts LinkFacts TellingBy ElementFacts PropertyNameFacts Telling Telling Telling TellingAs Telling Telling StatementFacts ClassFacts Telling Telling SubstitutionsFacts FunctionFacts MethodFacts BracketedFacts ElementsFacts NextElementFacts BlockFacts Telling Telling Telling class_element_step heritage_step expression_step link_step concise_body_step element_step property_name_step case_clause_step else_step finalizer_step for_start_step handler_step maybe_expression_step statement_step class_step operand_step substitution_step substitutions_step function_step method_step bracketed_step elements_step next_element_step block_step declaration_step else_if_step if_clause_step (Expression-F.Await word x))
+
+pub names_Await : (y : Expression) (word : Token) (x : Expression) → y ≡ e.Await word x → names_of_expression y ≡ []
+unfolding facts_of_expression breaches_of_expression shape_of_expression names_of_expression
+names_Await y word x h = ap names_of_expression h ∙ ap (λ f. f.names) (ap facts_of_expression (sym (e.rolls-Await word x)) ∙ fold-roll-Expression ClassElementFacts HeritageFacts ExpressionFacts LinkFacts TellingBy ElementFacts PropertyNameFacts Telling Telling Telling TellingAs Telling Telling StatementFacts ClassFacts Telling Telling SubstitutionsFacts FunctionFacts MethodFacts BracketedFacts ElementsFacts NextElementFacts BlockFacts Telling Telling Telling class_element_step heritage_step expression_step link_step concise_body_step element_step property_name_step case_clause_step else_step finalizer_step for_start_step handler_step maybe_expression_step statement_step class_step operand_step substitution_step substitutions_step function_step method_step bracketed_step elements_step next_element_step block_step declaration_step else_if_step if_clause_step (Expression-F.Await word x))
 
 pub is_Binary : (y : Expression) (first : Expression) (rest : List Operand) (text : List ℕ) (setting : Setting) (role : Role) → y ≡ e.Binary first rest → breaches_of_expression y text setting role ≡ together (breaches_of_expression first text setting r.Value ∷ each text setting (map breaches_of_operand rest) ∷ value_breaches role (shape_of_expression first).start ∷ [])
 unfolding facts_of_expression breaches_of_expression shape_of_expression breaches_of_operand
@@ -229,6 +302,10 @@ pub shape_Binary : (y : Expression) (first : Expression) (rest : List Operand) �
 unfolding facts_of_expression breaches_of_expression shape_of_expression breaches_of_operand
 shape_Binary y first rest h = ap shape_of_expression h ∙ ap (λ f. f.shape) (ap facts_of_expression (sym (e.rolls-Binary first rest)) ∙ fold-roll-Expression ClassElementFacts HeritageFacts ExpressionFacts LinkFacts TellingBy ElementFacts PropertyNameFacts Telling Telling Telling TellingAs Telling Telling StatementFacts ClassFacts Telling Telling SubstitutionsFacts FunctionFacts MethodFacts BracketedFacts ElementsFacts NextElementFacts BlockFacts Telling Telling Telling class_element_step heritage_step expression_step link_step concise_body_step element_step property_name_step case_clause_step else_step finalizer_step for_start_step handler_step maybe_expression_step statement_step class_step operand_step substitution_step substitutions_step function_step method_step bracketed_step elements_step next_element_step block_step declaration_step else_if_step if_clause_step (Expression-F.Binary first rest))
 
+pub names_Binary : (y : Expression) (first : Expression) (rest : List Operand) → y ≡ e.Binary first rest → names_of_expression y ≡ []
+unfolding facts_of_expression breaches_of_expression shape_of_expression names_of_expression breaches_of_operand
+names_Binary y first rest h = ap names_of_expression h ∙ ap (λ f. f.names) (ap facts_of_expression (sym (e.rolls-Binary first rest)) ∙ fold-roll-Expression ClassElementFacts HeritageFacts ExpressionFacts LinkFacts TellingBy ElementFacts PropertyNameFacts Telling Telling Telling TellingAs Telling Telling StatementFacts ClassFacts Telling Telling SubstitutionsFacts FunctionFacts MethodFacts BracketedFacts ElementsFacts NextElementFacts BlockFacts Telling Telling Telling class_element_step heritage_step expression_step link_step concise_body_step element_step property_name_step case_clause_step else_step finalizer_step for_start_step handler_step maybe_expression_step statement_step class_step operand_step substitution_step substitutions_step function_step method_step bracketed_step elements_step next_element_step block_step declaration_step else_if_step if_clause_step (Expression-F.Binary first rest))
+
 pub is_Conditional : (y : Expression) (test : Expression) (question : Token) (x : Expression) (colon : Token) (other : Expression) (text : List ℕ) (setting : Setting) (role : Role) → y ≡ e.Conditional test question x colon other → breaches_of_expression y text setting role ≡ together (breaches_of_expression test text setting r.Value ∷ breaches_of_expression x text setting r.Value ∷ breaches_of_expression other text setting r.Value ∷ value_breaches role (shape_of_expression test).start ∷ [])
 unfolding facts_of_expression breaches_of_expression shape_of_expression
 is_Conditional y test question x colon other text setting role h = ap (λ z. breaches_of_expression z text setting role) h ∙ ap (λ f. f.breaches text setting role) (ap facts_of_expression (sym (e.rolls-Conditional test question x colon other)) ∙ fold-roll-Expression ClassElementFacts HeritageFacts ExpressionFacts LinkFacts TellingBy ElementFacts PropertyNameFacts Telling Telling Telling TellingAs Telling Telling StatementFacts ClassFacts Telling Telling SubstitutionsFacts FunctionFacts MethodFacts BracketedFacts ElementsFacts NextElementFacts BlockFacts Telling Telling Telling class_element_step heritage_step expression_step link_step concise_body_step element_step property_name_step case_clause_step else_step finalizer_step for_start_step handler_step maybe_expression_step statement_step class_step operand_step substitution_step substitutions_step function_step method_step bracketed_step elements_step next_element_step block_step declaration_step else_if_step if_clause_step (Expression-F.Conditional test question x colon other))
@@ -236,6 +313,10 @@ is_Conditional y test question x colon other text setting role h = ap (λ z. bre
 pub shape_Conditional : (y : Expression) (test : Expression) (question : Token) (x : Expression) (colon : Token) (other : Expression) → y ≡ e.Conditional test question x colon other → shape_of_expression y ≡ other_shape (shape_of_expression test).start
 unfolding facts_of_expression breaches_of_expression shape_of_expression
 shape_Conditional y test question x colon other h = ap shape_of_expression h ∙ ap (λ f. f.shape) (ap facts_of_expression (sym (e.rolls-Conditional test question x colon other)) ∙ fold-roll-Expression ClassElementFacts HeritageFacts ExpressionFacts LinkFacts TellingBy ElementFacts PropertyNameFacts Telling Telling Telling TellingAs Telling Telling StatementFacts ClassFacts Telling Telling SubstitutionsFacts FunctionFacts MethodFacts BracketedFacts ElementsFacts NextElementFacts BlockFacts Telling Telling Telling class_element_step heritage_step expression_step link_step concise_body_step element_step property_name_step case_clause_step else_step finalizer_step for_start_step handler_step maybe_expression_step statement_step class_step operand_step substitution_step substitutions_step function_step method_step bracketed_step elements_step next_element_step block_step declaration_step else_if_step if_clause_step (Expression-F.Conditional test question x colon other))
+
+pub names_Conditional : (y : Expression) (test : Expression) (question : Token) (x : Expression) (colon : Token) (other : Expression) → y ≡ e.Conditional test question x colon other → names_of_expression y ≡ []
+unfolding facts_of_expression breaches_of_expression shape_of_expression names_of_expression
+names_Conditional y test question x colon other h = ap names_of_expression h ∙ ap (λ f. f.names) (ap facts_of_expression (sym (e.rolls-Conditional test question x colon other)) ∙ fold-roll-Expression ClassElementFacts HeritageFacts ExpressionFacts LinkFacts TellingBy ElementFacts PropertyNameFacts Telling Telling Telling TellingAs Telling Telling StatementFacts ClassFacts Telling Telling SubstitutionsFacts FunctionFacts MethodFacts BracketedFacts ElementsFacts NextElementFacts BlockFacts Telling Telling Telling class_element_step heritage_step expression_step link_step concise_body_step element_step property_name_step case_clause_step else_step finalizer_step for_start_step handler_step maybe_expression_step statement_step class_step operand_step substitution_step substitutions_step function_step method_step bracketed_step elements_step next_element_step block_step declaration_step else_if_step if_clause_step (Expression-F.Conditional test question x colon other))
 
 pub is_Assignment : (y : Expression) (target : Expression) (operator : Token) (x : Expression) (text : List ℕ) (setting : Setting) (role : Role) → y ≡ e.Assignment target operator x → breaches_of_expression y text setting role ≡ together (breaches_of_expression target text setting (assigned_role operator.kind) ∷ breaches_of_expression x text setting r.Value ∷ assignment_breaches role operator (shape_of_expression target).start ∷ [])
 unfolding facts_of_expression breaches_of_expression shape_of_expression
@@ -245,13 +326,21 @@ pub shape_Assignment : (y : Expression) (target : Expression) (operator : Token)
 unfolding facts_of_expression breaches_of_expression shape_of_expression
 shape_Assignment y target operator x h = ap shape_of_expression h ∙ ap (λ f. f.shape) (ap facts_of_expression (sym (e.rolls-Assignment target operator x)) ∙ fold-roll-Expression ClassElementFacts HeritageFacts ExpressionFacts LinkFacts TellingBy ElementFacts PropertyNameFacts Telling Telling Telling TellingAs Telling Telling StatementFacts ClassFacts Telling Telling SubstitutionsFacts FunctionFacts MethodFacts BracketedFacts ElementsFacts NextElementFacts BlockFacts Telling Telling Telling class_element_step heritage_step expression_step link_step concise_body_step element_step property_name_step case_clause_step else_step finalizer_step for_start_step handler_step maybe_expression_step statement_step class_step operand_step substitution_step substitutions_step function_step method_step bracketed_step elements_step next_element_step block_step declaration_step else_if_step if_clause_step (Expression-F.Assignment target operator x))
 
-pub is_Arrow : (y : Expression) (head : Expression) (arrow : Token) (body : ConciseBody) (text : List ℕ) (setting : Setting) (role : Role) → y ≡ e.Arrow head arrow body → breaches_of_expression y text setting role ≡ together (breaches_of_expression head text (of_parameters setting) r.Parameters ∷ breaches_of_concise_body body text (of_body setting) (shape_of_expression head).is_plain ∷ value_breaches role (shape_of_expression head).start ∷ [])
-unfolding facts_of_expression breaches_of_expression shape_of_expression breaches_of_concise_body
+pub names_Assignment : (y : Expression) (target : Expression) (operator : Token) (x : Expression) → y ≡ e.Assignment target operator x → names_of_expression y ≡ names_of_expression target
+unfolding facts_of_expression breaches_of_expression shape_of_expression names_of_expression
+names_Assignment y target operator x h = ap names_of_expression h ∙ ap (λ f. f.names) (ap facts_of_expression (sym (e.rolls-Assignment target operator x)) ∙ fold-roll-Expression ClassElementFacts HeritageFacts ExpressionFacts LinkFacts TellingBy ElementFacts PropertyNameFacts Telling Telling Telling TellingAs Telling Telling StatementFacts ClassFacts Telling Telling SubstitutionsFacts FunctionFacts MethodFacts BracketedFacts ElementsFacts NextElementFacts BlockFacts Telling Telling Telling class_element_step heritage_step expression_step link_step concise_body_step element_step property_name_step case_clause_step else_step finalizer_step for_start_step handler_step maybe_expression_step statement_step class_step operand_step substitution_step substitutions_step function_step method_step bracketed_step elements_step next_element_step block_step declaration_step else_if_step if_clause_step (Expression-F.Assignment target operator x))
+
+pub is_Arrow : (y : Expression) (head : Expression) (arrow : Token) (body : ConciseBody) (text : List ℕ) (setting : Setting) (role : Role) → y ≡ e.Arrow head arrow body → breaches_of_expression y text setting role ≡ together (repeated_breaches text (names_of_expression head) ∷ breaches_of_expression head text (of_parameters setting) r.Parameters ∷ breaches_of_concise_body body text (of_body setting) (shape_of_expression head).is_plain ∷ value_breaches role (shape_of_expression head).start ∷ [])
+unfolding facts_of_expression breaches_of_expression shape_of_expression names_of_expression breaches_of_concise_body
 is_Arrow y head arrow body text setting role h = ap (λ z. breaches_of_expression z text setting role) h ∙ ap (λ f. f.breaches text setting role) (ap facts_of_expression (sym (e.rolls-Arrow head arrow body)) ∙ fold-roll-Expression ClassElementFacts HeritageFacts ExpressionFacts LinkFacts TellingBy ElementFacts PropertyNameFacts Telling Telling Telling TellingAs Telling Telling StatementFacts ClassFacts Telling Telling SubstitutionsFacts FunctionFacts MethodFacts BracketedFacts ElementsFacts NextElementFacts BlockFacts Telling Telling Telling class_element_step heritage_step expression_step link_step concise_body_step element_step property_name_step case_clause_step else_step finalizer_step for_start_step handler_step maybe_expression_step statement_step class_step operand_step substitution_step substitutions_step function_step method_step bracketed_step elements_step next_element_step block_step declaration_step else_if_step if_clause_step (Expression-F.Arrow head arrow body))
 
 pub shape_Arrow : (y : Expression) (head : Expression) (arrow : Token) (body : ConciseBody) → y ≡ e.Arrow head arrow body → shape_of_expression y ≡ other_shape (shape_of_expression head).start
-unfolding facts_of_expression breaches_of_expression shape_of_expression breaches_of_concise_body
+unfolding facts_of_expression breaches_of_expression shape_of_expression names_of_expression breaches_of_concise_body
 shape_Arrow y head arrow body h = ap shape_of_expression h ∙ ap (λ f. f.shape) (ap facts_of_expression (sym (e.rolls-Arrow head arrow body)) ∙ fold-roll-Expression ClassElementFacts HeritageFacts ExpressionFacts LinkFacts TellingBy ElementFacts PropertyNameFacts Telling Telling Telling TellingAs Telling Telling StatementFacts ClassFacts Telling Telling SubstitutionsFacts FunctionFacts MethodFacts BracketedFacts ElementsFacts NextElementFacts BlockFacts Telling Telling Telling class_element_step heritage_step expression_step link_step concise_body_step element_step property_name_step case_clause_step else_step finalizer_step for_start_step handler_step maybe_expression_step statement_step class_step operand_step substitution_step substitutions_step function_step method_step bracketed_step elements_step next_element_step block_step declaration_step else_if_step if_clause_step (Expression-F.Arrow head arrow body))
+
+pub names_Arrow : (y : Expression) (head : Expression) (arrow : Token) (body : ConciseBody) → y ≡ e.Arrow head arrow body → names_of_expression y ≡ []
+unfolding facts_of_expression breaches_of_expression shape_of_expression names_of_expression breaches_of_concise_body
+names_Arrow y head arrow body h = ap names_of_expression h ∙ ap (λ f. f.names) (ap facts_of_expression (sym (e.rolls-Arrow head arrow body)) ∙ fold-roll-Expression ClassElementFacts HeritageFacts ExpressionFacts LinkFacts TellingBy ElementFacts PropertyNameFacts Telling Telling Telling TellingAs Telling Telling StatementFacts ClassFacts Telling Telling SubstitutionsFacts FunctionFacts MethodFacts BracketedFacts ElementsFacts NextElementFacts BlockFacts Telling Telling Telling class_element_step heritage_step expression_step link_step concise_body_step element_step property_name_step case_clause_step else_step finalizer_step for_start_step handler_step maybe_expression_step statement_step class_step operand_step substitution_step substitutions_step function_step method_step bracketed_step elements_step next_element_step block_step declaration_step else_if_step if_clause_step (Expression-F.Arrow head arrow body))
 
 pub is_AsyncArrow : (y : Expression) (word : Token) (name : Token) (arrow : Token) (body : ConciseBody) (text : List ℕ) (setting : Setting) (role : Role) → y ≡ e.AsyncArrow word name arrow body → breaches_of_expression y text setting role ≡ together (bound_breaches text name ∷ breaches_of_concise_body body text (of_body setting) true ∷ value_breaches role word.start ∷ [])
 unfolding facts_of_expression breaches_of_expression shape_of_expression breaches_of_concise_body
@@ -261,6 +350,10 @@ pub shape_AsyncArrow : (y : Expression) (word : Token) (name : Token) (arrow : T
 unfolding facts_of_expression breaches_of_expression shape_of_expression breaches_of_concise_body
 shape_AsyncArrow y word name arrow body h = ap shape_of_expression h ∙ ap (λ f. f.shape) (ap facts_of_expression (sym (e.rolls-AsyncArrow word name arrow body)) ∙ fold-roll-Expression ClassElementFacts HeritageFacts ExpressionFacts LinkFacts TellingBy ElementFacts PropertyNameFacts Telling Telling Telling TellingAs Telling Telling StatementFacts ClassFacts Telling Telling SubstitutionsFacts FunctionFacts MethodFacts BracketedFacts ElementsFacts NextElementFacts BlockFacts Telling Telling Telling class_element_step heritage_step expression_step link_step concise_body_step element_step property_name_step case_clause_step else_step finalizer_step for_start_step handler_step maybe_expression_step statement_step class_step operand_step substitution_step substitutions_step function_step method_step bracketed_step elements_step next_element_step block_step declaration_step else_if_step if_clause_step (Expression-F.AsyncArrow word name arrow body))
 
+pub names_AsyncArrow : (y : Expression) (word : Token) (name : Token) (arrow : Token) (body : ConciseBody) → y ≡ e.AsyncArrow word name arrow body → names_of_expression y ≡ []
+unfolding facts_of_expression breaches_of_expression shape_of_expression names_of_expression breaches_of_concise_body
+names_AsyncArrow y word name arrow body h = ap names_of_expression h ∙ ap (λ f. f.names) (ap facts_of_expression (sym (e.rolls-AsyncArrow word name arrow body)) ∙ fold-roll-Expression ClassElementFacts HeritageFacts ExpressionFacts LinkFacts TellingBy ElementFacts PropertyNameFacts Telling Telling Telling TellingAs Telling Telling StatementFacts ClassFacts Telling Telling SubstitutionsFacts FunctionFacts MethodFacts BracketedFacts ElementsFacts NextElementFacts BlockFacts Telling Telling Telling class_element_step heritage_step expression_step link_step concise_body_step element_step property_name_step case_clause_step else_step finalizer_step for_start_step handler_step maybe_expression_step statement_step class_step operand_step substitution_step substitutions_step function_step method_step bracketed_step elements_step next_element_step block_step declaration_step else_if_step if_clause_step (Expression-F.AsyncArrow word name arrow body))
+
 pub is_Yield : (y : Expression) (word : Token) (text : List ℕ) (setting : Setting) (role : Role) → y ≡ e.Yield word → breaches_of_expression y text setting role ≡ together (operator_breaches word setting ∷ value_breaches role word.start ∷ [])
 unfolding facts_of_expression breaches_of_expression shape_of_expression
 is_Yield y word text setting role h = ap (λ z. breaches_of_expression z text setting role) h ∙ ap (λ f. f.breaches text setting role) (ap facts_of_expression (sym (e.rolls-Yield word)) ∙ fold-roll-Expression ClassElementFacts HeritageFacts ExpressionFacts LinkFacts TellingBy ElementFacts PropertyNameFacts Telling Telling Telling TellingAs Telling Telling StatementFacts ClassFacts Telling Telling SubstitutionsFacts FunctionFacts MethodFacts BracketedFacts ElementsFacts NextElementFacts BlockFacts Telling Telling Telling class_element_step heritage_step expression_step link_step concise_body_step element_step property_name_step case_clause_step else_step finalizer_step for_start_step handler_step maybe_expression_step statement_step class_step operand_step substitution_step substitutions_step function_step method_step bracketed_step elements_step next_element_step block_step declaration_step else_if_step if_clause_step (Expression-F.Yield word))
@@ -268,6 +361,10 @@ is_Yield y word text setting role h = ap (λ z. breaches_of_expression z text se
 pub shape_Yield : (y : Expression) (word : Token) → y ≡ e.Yield word → shape_of_expression y ≡ other_shape word.start
 unfolding facts_of_expression breaches_of_expression shape_of_expression
 shape_Yield y word h = ap shape_of_expression h ∙ ap (λ f. f.shape) (ap facts_of_expression (sym (e.rolls-Yield word)) ∙ fold-roll-Expression ClassElementFacts HeritageFacts ExpressionFacts LinkFacts TellingBy ElementFacts PropertyNameFacts Telling Telling Telling TellingAs Telling Telling StatementFacts ClassFacts Telling Telling SubstitutionsFacts FunctionFacts MethodFacts BracketedFacts ElementsFacts NextElementFacts BlockFacts Telling Telling Telling class_element_step heritage_step expression_step link_step concise_body_step element_step property_name_step case_clause_step else_step finalizer_step for_start_step handler_step maybe_expression_step statement_step class_step operand_step substitution_step substitutions_step function_step method_step bracketed_step elements_step next_element_step block_step declaration_step else_if_step if_clause_step (Expression-F.Yield word))
+
+pub names_Yield : (y : Expression) (word : Token) → y ≡ e.Yield word → names_of_expression y ≡ []
+unfolding facts_of_expression breaches_of_expression shape_of_expression names_of_expression
+names_Yield y word h = ap names_of_expression h ∙ ap (λ f. f.names) (ap facts_of_expression (sym (e.rolls-Yield word)) ∙ fold-roll-Expression ClassElementFacts HeritageFacts ExpressionFacts LinkFacts TellingBy ElementFacts PropertyNameFacts Telling Telling Telling TellingAs Telling Telling StatementFacts ClassFacts Telling Telling SubstitutionsFacts FunctionFacts MethodFacts BracketedFacts ElementsFacts NextElementFacts BlockFacts Telling Telling Telling class_element_step heritage_step expression_step link_step concise_body_step element_step property_name_step case_clause_step else_step finalizer_step for_start_step handler_step maybe_expression_step statement_step class_step operand_step substitution_step substitutions_step function_step method_step bracketed_step elements_step next_element_step block_step declaration_step else_if_step if_clause_step (Expression-F.Yield word))
 
 pub is_YieldValue : (y : Expression) (word : Token) (x : Expression) (text : List ℕ) (setting : Setting) (role : Role) → y ≡ e.YieldValue word x → breaches_of_expression y text setting role ≡ together (breaches_of_expression x text setting r.Value ∷ operator_breaches word setting ∷ value_breaches role word.start ∷ [])
 unfolding facts_of_expression breaches_of_expression shape_of_expression
@@ -277,6 +374,10 @@ pub shape_YieldValue : (y : Expression) (word : Token) (x : Expression) → y �
 unfolding facts_of_expression breaches_of_expression shape_of_expression
 shape_YieldValue y word x h = ap shape_of_expression h ∙ ap (λ f. f.shape) (ap facts_of_expression (sym (e.rolls-YieldValue word x)) ∙ fold-roll-Expression ClassElementFacts HeritageFacts ExpressionFacts LinkFacts TellingBy ElementFacts PropertyNameFacts Telling Telling Telling TellingAs Telling Telling StatementFacts ClassFacts Telling Telling SubstitutionsFacts FunctionFacts MethodFacts BracketedFacts ElementsFacts NextElementFacts BlockFacts Telling Telling Telling class_element_step heritage_step expression_step link_step concise_body_step element_step property_name_step case_clause_step else_step finalizer_step for_start_step handler_step maybe_expression_step statement_step class_step operand_step substitution_step substitutions_step function_step method_step bracketed_step elements_step next_element_step block_step declaration_step else_if_step if_clause_step (Expression-F.YieldValue word x))
 
+pub names_YieldValue : (y : Expression) (word : Token) (x : Expression) → y ≡ e.YieldValue word x → names_of_expression y ≡ []
+unfolding facts_of_expression breaches_of_expression shape_of_expression names_of_expression
+names_YieldValue y word x h = ap names_of_expression h ∙ ap (λ f. f.names) (ap facts_of_expression (sym (e.rolls-YieldValue word x)) ∙ fold-roll-Expression ClassElementFacts HeritageFacts ExpressionFacts LinkFacts TellingBy ElementFacts PropertyNameFacts Telling Telling Telling TellingAs Telling Telling StatementFacts ClassFacts Telling Telling SubstitutionsFacts FunctionFacts MethodFacts BracketedFacts ElementsFacts NextElementFacts BlockFacts Telling Telling Telling class_element_step heritage_step expression_step link_step concise_body_step element_step property_name_step case_clause_step else_step finalizer_step for_start_step handler_step maybe_expression_step statement_step class_step operand_step substitution_step substitutions_step function_step method_step bracketed_step elements_step next_element_step block_step declaration_step else_if_step if_clause_step (Expression-F.YieldValue word x))
+
 pub is_YieldEach : (y : Expression) (word : Token) (star : Token) (x : Expression) (text : List ℕ) (setting : Setting) (role : Role) → y ≡ e.YieldEach word star x → breaches_of_expression y text setting role ≡ together (breaches_of_expression x text setting r.Value ∷ operator_breaches word setting ∷ value_breaches role word.start ∷ [])
 unfolding facts_of_expression breaches_of_expression shape_of_expression
 is_YieldEach y word star x text setting role h = ap (λ z. breaches_of_expression z text setting role) h ∙ ap (λ f. f.breaches text setting role) (ap facts_of_expression (sym (e.rolls-YieldEach word star x)) ∙ fold-roll-Expression ClassElementFacts HeritageFacts ExpressionFacts LinkFacts TellingBy ElementFacts PropertyNameFacts Telling Telling Telling TellingAs Telling Telling StatementFacts ClassFacts Telling Telling SubstitutionsFacts FunctionFacts MethodFacts BracketedFacts ElementsFacts NextElementFacts BlockFacts Telling Telling Telling class_element_step heritage_step expression_step link_step concise_body_step element_step property_name_step case_clause_step else_step finalizer_step for_start_step handler_step maybe_expression_step statement_step class_step operand_step substitution_step substitutions_step function_step method_step bracketed_step elements_step next_element_step block_step declaration_step else_if_step if_clause_step (Expression-F.YieldEach word star x))
@@ -284,6 +385,10 @@ is_YieldEach y word star x text setting role h = ap (λ z. breaches_of_expressio
 pub shape_YieldEach : (y : Expression) (word : Token) (star : Token) (x : Expression) → y ≡ e.YieldEach word star x → shape_of_expression y ≡ other_shape word.start
 unfolding facts_of_expression breaches_of_expression shape_of_expression
 shape_YieldEach y word star x h = ap shape_of_expression h ∙ ap (λ f. f.shape) (ap facts_of_expression (sym (e.rolls-YieldEach word star x)) ∙ fold-roll-Expression ClassElementFacts HeritageFacts ExpressionFacts LinkFacts TellingBy ElementFacts PropertyNameFacts Telling Telling Telling TellingAs Telling Telling StatementFacts ClassFacts Telling Telling SubstitutionsFacts FunctionFacts MethodFacts BracketedFacts ElementsFacts NextElementFacts BlockFacts Telling Telling Telling class_element_step heritage_step expression_step link_step concise_body_step element_step property_name_step case_clause_step else_step finalizer_step for_start_step handler_step maybe_expression_step statement_step class_step operand_step substitution_step substitutions_step function_step method_step bracketed_step elements_step next_element_step block_step declaration_step else_if_step if_clause_step (Expression-F.YieldEach word star x))
+
+pub names_YieldEach : (y : Expression) (word : Token) (star : Token) (x : Expression) → y ≡ e.YieldEach word star x → names_of_expression y ≡ []
+unfolding facts_of_expression breaches_of_expression shape_of_expression names_of_expression
+names_YieldEach y word star x h = ap names_of_expression h ∙ ap (λ f. f.names) (ap facts_of_expression (sym (e.rolls-YieldEach word star x)) ∙ fold-roll-Expression ClassElementFacts HeritageFacts ExpressionFacts LinkFacts TellingBy ElementFacts PropertyNameFacts Telling Telling Telling TellingAs Telling Telling StatementFacts ClassFacts Telling Telling SubstitutionsFacts FunctionFacts MethodFacts BracketedFacts ElementsFacts NextElementFacts BlockFacts Telling Telling Telling class_element_step heritage_step expression_step link_step concise_body_step element_step property_name_step case_clause_step else_step finalizer_step for_start_step handler_step maybe_expression_step statement_step class_step operand_step substitution_step substitutions_step function_step method_step bracketed_step elements_step next_element_step block_step declaration_step else_if_step if_clause_step (Expression-F.YieldEach word star x))
 
 pub is_Dot : (y : Link) (dot : Token) (name : Token) (text : List ℕ) (setting : Setting) (role : Role) → y ≡ l.Dot dot name → breaches_of_link y text setting role ≡ together ([])
 unfolding facts_of_link breaches_of_link shape_of_link
@@ -293,6 +398,10 @@ pub shape_Dot : (y : Link) (dot : Token) (name : Token) → y ≡ l.Dot dot name
 unfolding facts_of_link breaches_of_link shape_of_link
 shape_Dot y dot name h = ap shape_of_link h ∙ ap (λ f. f.shape) (ap facts_of_link (sym (l.rolls-Dot dot name)) ∙ fold-roll-Link ClassElementFacts HeritageFacts ExpressionFacts LinkFacts TellingBy ElementFacts PropertyNameFacts Telling Telling Telling TellingAs Telling Telling StatementFacts ClassFacts Telling Telling SubstitutionsFacts FunctionFacts MethodFacts BracketedFacts ElementsFacts NextElementFacts BlockFacts Telling Telling Telling class_element_step heritage_step expression_step link_step concise_body_step element_step property_name_step case_clause_step else_step finalizer_step for_start_step handler_step maybe_expression_step statement_step class_step operand_step substitution_step substitutions_step function_step method_step bracketed_step elements_step next_element_step block_step declaration_step else_if_step if_clause_step (Link-F.Dot dot name))
 
+pub names_Dot : (y : Link) (dot : Token) (name : Token) → y ≡ l.Dot dot name → names_of_link y ≡ []
+unfolding facts_of_link breaches_of_link shape_of_link names_of_link
+names_Dot y dot name h = ap names_of_link h ∙ ap (λ f. f.names) (ap facts_of_link (sym (l.rolls-Dot dot name)) ∙ fold-roll-Link ClassElementFacts HeritageFacts ExpressionFacts LinkFacts TellingBy ElementFacts PropertyNameFacts Telling Telling Telling TellingAs Telling Telling StatementFacts ClassFacts Telling Telling SubstitutionsFacts FunctionFacts MethodFacts BracketedFacts ElementsFacts NextElementFacts BlockFacts Telling Telling Telling class_element_step heritage_step expression_step link_step concise_body_step element_step property_name_step case_clause_step else_step finalizer_step for_start_step handler_step maybe_expression_step statement_step class_step operand_step substitution_step substitutions_step function_step method_step bracketed_step elements_step next_element_step block_step declaration_step else_if_step if_clause_step (Link-F.Dot dot name))
+
 pub is_Index : (y : Link) (begin : Token) (x : Expression) (ending : Token) (text : List ℕ) (setting : Setting) (role : Role) → y ≡ l.Index begin x ending → breaches_of_link y text setting role ≡ breaches_of_expression x text setting r.Value
 unfolding facts_of_link breaches_of_link shape_of_link facts_of_expression breaches_of_expression shape_of_expression
 is_Index y begin x ending text setting role h = ap (λ z. breaches_of_link z text setting role) h ∙ ap (λ f. f.breaches text setting role) (ap facts_of_link (sym (l.rolls-Index begin x ending)) ∙ fold-roll-Link ClassElementFacts HeritageFacts ExpressionFacts LinkFacts TellingBy ElementFacts PropertyNameFacts Telling Telling Telling TellingAs Telling Telling StatementFacts ClassFacts Telling Telling SubstitutionsFacts FunctionFacts MethodFacts BracketedFacts ElementsFacts NextElementFacts BlockFacts Telling Telling Telling class_element_step heritage_step expression_step link_step concise_body_step element_step property_name_step case_clause_step else_step finalizer_step for_start_step handler_step maybe_expression_step statement_step class_step operand_step substitution_step substitutions_step function_step method_step bracketed_step elements_step next_element_step block_step declaration_step else_if_step if_clause_step (Link-F.Index begin x ending))
@@ -300,6 +409,10 @@ is_Index y begin x ending text setting role h = ap (λ z. breaches_of_link z tex
 pub shape_Index : (y : Link) (begin : Token) (x : Expression) (ending : Token) → y ≡ l.Index begin x ending → shape_of_link y ≡ access_link
 unfolding facts_of_link breaches_of_link shape_of_link facts_of_expression breaches_of_expression shape_of_expression
 shape_Index y begin x ending h = ap shape_of_link h ∙ ap (λ f. f.shape) (ap facts_of_link (sym (l.rolls-Index begin x ending)) ∙ fold-roll-Link ClassElementFacts HeritageFacts ExpressionFacts LinkFacts TellingBy ElementFacts PropertyNameFacts Telling Telling Telling TellingAs Telling Telling StatementFacts ClassFacts Telling Telling SubstitutionsFacts FunctionFacts MethodFacts BracketedFacts ElementsFacts NextElementFacts BlockFacts Telling Telling Telling class_element_step heritage_step expression_step link_step concise_body_step element_step property_name_step case_clause_step else_step finalizer_step for_start_step handler_step maybe_expression_step statement_step class_step operand_step substitution_step substitutions_step function_step method_step bracketed_step elements_step next_element_step block_step declaration_step else_if_step if_clause_step (Link-F.Index begin x ending))
+
+pub names_Index : (y : Link) (begin : Token) (x : Expression) (ending : Token) → y ≡ l.Index begin x ending → names_of_link y ≡ []
+unfolding facts_of_link breaches_of_link shape_of_link names_of_link facts_of_expression breaches_of_expression shape_of_expression names_of_expression
+names_Index y begin x ending h = ap names_of_link h ∙ ap (λ f. f.names) (ap facts_of_link (sym (l.rolls-Index begin x ending)) ∙ fold-roll-Link ClassElementFacts HeritageFacts ExpressionFacts LinkFacts TellingBy ElementFacts PropertyNameFacts Telling Telling Telling TellingAs Telling Telling StatementFacts ClassFacts Telling Telling SubstitutionsFacts FunctionFacts MethodFacts BracketedFacts ElementsFacts NextElementFacts BlockFacts Telling Telling Telling class_element_step heritage_step expression_step link_step concise_body_step element_step property_name_step case_clause_step else_step finalizer_step for_start_step handler_step maybe_expression_step statement_step class_step operand_step substitution_step substitutions_step function_step method_step bracketed_step elements_step next_element_step block_step declaration_step else_if_step if_clause_step (Link-F.Index begin x ending))
 
 pub is_Call : (y : Link) (arguments : Bracketed) (text : List ℕ) (setting : Setting) (role : Role) → y ≡ l.Call arguments → breaches_of_link y text setting role ≡ breaches_of_bracketed arguments text setting (parenthesized_role role)
 unfolding facts_of_link breaches_of_link shape_of_link facts_of_bracketed breaches_of_bracketed shape_of_bracketed
@@ -309,6 +422,10 @@ pub shape_Call : (y : Link) (arguments : Bracketed) → y ≡ l.Call arguments �
 unfolding facts_of_link breaches_of_link shape_of_link facts_of_bracketed breaches_of_bracketed shape_of_bracketed
 shape_Call y arguments h = ap shape_of_link h ∙ ap (λ f. f.shape) (ap facts_of_link (sym (l.rolls-Call arguments)) ∙ fold-roll-Link ClassElementFacts HeritageFacts ExpressionFacts LinkFacts TellingBy ElementFacts PropertyNameFacts Telling Telling Telling TellingAs Telling Telling StatementFacts ClassFacts Telling Telling SubstitutionsFacts FunctionFacts MethodFacts BracketedFacts ElementsFacts NextElementFacts BlockFacts Telling Telling Telling class_element_step heritage_step expression_step link_step concise_body_step element_step property_name_step case_clause_step else_step finalizer_step for_start_step handler_step maybe_expression_step statement_step class_step operand_step substitution_step substitutions_step function_step method_step bracketed_step elements_step next_element_step block_step declaration_step else_if_step if_clause_step (Link-F.Call arguments))
 
+pub names_Call : (y : Link) (arguments : Bracketed) → y ≡ l.Call arguments → names_of_link y ≡ names_of_bracketed arguments
+unfolding facts_of_link breaches_of_link shape_of_link names_of_link facts_of_bracketed breaches_of_bracketed shape_of_bracketed names_of_bracketed
+names_Call y arguments h = ap names_of_link h ∙ ap (λ f. f.names) (ap facts_of_link (sym (l.rolls-Call arguments)) ∙ fold-roll-Link ClassElementFacts HeritageFacts ExpressionFacts LinkFacts TellingBy ElementFacts PropertyNameFacts Telling Telling Telling TellingAs Telling Telling StatementFacts ClassFacts Telling Telling SubstitutionsFacts FunctionFacts MethodFacts BracketedFacts ElementsFacts NextElementFacts BlockFacts Telling Telling Telling class_element_step heritage_step expression_step link_step concise_body_step element_step property_name_step case_clause_step else_step finalizer_step for_start_step handler_step maybe_expression_step statement_step class_step operand_step substitution_step substitutions_step function_step method_step bracketed_step elements_step next_element_step block_step declaration_step else_if_step if_clause_step (Link-F.Call arguments))
+
 pub is_Tagged : (y : Link) (template : Token) (text : List ℕ) (setting : Setting) (role : Role) → y ≡ l.Tagged template → breaches_of_link y text setting role ≡ together ([])
 unfolding facts_of_link breaches_of_link shape_of_link
 is_Tagged y template text setting role h = ap (λ z. breaches_of_link z text setting role) h ∙ ap (λ f. f.breaches text setting role) (ap facts_of_link (sym (l.rolls-Tagged template)) ∙ fold-roll-Link ClassElementFacts HeritageFacts ExpressionFacts LinkFacts TellingBy ElementFacts PropertyNameFacts Telling Telling Telling TellingAs Telling Telling StatementFacts ClassFacts Telling Telling SubstitutionsFacts FunctionFacts MethodFacts BracketedFacts ElementsFacts NextElementFacts BlockFacts Telling Telling Telling class_element_step heritage_step expression_step link_step concise_body_step element_step property_name_step case_clause_step else_step finalizer_step for_start_step handler_step maybe_expression_step statement_step class_step operand_step substitution_step substitutions_step function_step method_step bracketed_step elements_step next_element_step block_step declaration_step else_if_step if_clause_step (Link-F.Tagged template))
@@ -316,6 +433,10 @@ is_Tagged y template text setting role h = ap (λ z. breaches_of_link z text set
 pub shape_Tagged : (y : Link) (template : Token) → y ≡ l.Tagged template → shape_of_link y ≡ template_link
 unfolding facts_of_link breaches_of_link shape_of_link
 shape_Tagged y template h = ap shape_of_link h ∙ ap (λ f. f.shape) (ap facts_of_link (sym (l.rolls-Tagged template)) ∙ fold-roll-Link ClassElementFacts HeritageFacts ExpressionFacts LinkFacts TellingBy ElementFacts PropertyNameFacts Telling Telling Telling TellingAs Telling Telling StatementFacts ClassFacts Telling Telling SubstitutionsFacts FunctionFacts MethodFacts BracketedFacts ElementsFacts NextElementFacts BlockFacts Telling Telling Telling class_element_step heritage_step expression_step link_step concise_body_step element_step property_name_step case_clause_step else_step finalizer_step for_start_step handler_step maybe_expression_step statement_step class_step operand_step substitution_step substitutions_step function_step method_step bracketed_step elements_step next_element_step block_step declaration_step else_if_step if_clause_step (Link-F.Tagged template))
+
+pub names_Tagged : (y : Link) (template : Token) → y ≡ l.Tagged template → names_of_link y ≡ []
+unfolding facts_of_link breaches_of_link shape_of_link names_of_link
+names_Tagged y template h = ap names_of_link h ∙ ap (λ f. f.names) (ap facts_of_link (sym (l.rolls-Tagged template)) ∙ fold-roll-Link ClassElementFacts HeritageFacts ExpressionFacts LinkFacts TellingBy ElementFacts PropertyNameFacts Telling Telling Telling TellingAs Telling Telling StatementFacts ClassFacts Telling Telling SubstitutionsFacts FunctionFacts MethodFacts BracketedFacts ElementsFacts NextElementFacts BlockFacts Telling Telling Telling class_element_step heritage_step expression_step link_step concise_body_step element_step property_name_step case_clause_step else_step finalizer_step for_start_step handler_step maybe_expression_step statement_step class_step operand_step substitution_step substitutions_step function_step method_step bracketed_step elements_step next_element_step block_step declaration_step else_if_step if_clause_step (Link-F.Tagged template))
 
 pub is_TaggedTemplate : (y : Link) (template : Substitutions) (text : List ℕ) (setting : Setting) (role : Role) → y ≡ l.TaggedTemplate template → breaches_of_link y text setting role ≡ breaches_of_substitutions template text setting
 unfolding facts_of_link breaches_of_link shape_of_link facts_of_substitutions breaches_of_substitutions shape_of_substitutions
@@ -325,6 +446,10 @@ pub shape_TaggedTemplate : (y : Link) (template : Substitutions) → y ≡ l.Tag
 unfolding facts_of_link breaches_of_link shape_of_link facts_of_substitutions breaches_of_substitutions shape_of_substitutions
 shape_TaggedTemplate y template h = ap shape_of_link h ∙ ap (λ f. f.shape) (ap facts_of_link (sym (l.rolls-TaggedTemplate template)) ∙ fold-roll-Link ClassElementFacts HeritageFacts ExpressionFacts LinkFacts TellingBy ElementFacts PropertyNameFacts Telling Telling Telling TellingAs Telling Telling StatementFacts ClassFacts Telling Telling SubstitutionsFacts FunctionFacts MethodFacts BracketedFacts ElementsFacts NextElementFacts BlockFacts Telling Telling Telling class_element_step heritage_step expression_step link_step concise_body_step element_step property_name_step case_clause_step else_step finalizer_step for_start_step handler_step maybe_expression_step statement_step class_step operand_step substitution_step substitutions_step function_step method_step bracketed_step elements_step next_element_step block_step declaration_step else_if_step if_clause_step (Link-F.TaggedTemplate template))
 
+pub names_TaggedTemplate : (y : Link) (template : Substitutions) → y ≡ l.TaggedTemplate template → names_of_link y ≡ []
+unfolding facts_of_link breaches_of_link shape_of_link names_of_link facts_of_substitutions breaches_of_substitutions shape_of_substitutions
+names_TaggedTemplate y template h = ap names_of_link h ∙ ap (λ f. f.names) (ap facts_of_link (sym (l.rolls-TaggedTemplate template)) ∙ fold-roll-Link ClassElementFacts HeritageFacts ExpressionFacts LinkFacts TellingBy ElementFacts PropertyNameFacts Telling Telling Telling TellingAs Telling Telling StatementFacts ClassFacts Telling Telling SubstitutionsFacts FunctionFacts MethodFacts BracketedFacts ElementsFacts NextElementFacts BlockFacts Telling Telling Telling class_element_step heritage_step expression_step link_step concise_body_step element_step property_name_step case_clause_step else_step finalizer_step for_start_step handler_step maybe_expression_step statement_step class_step operand_step substitution_step substitutions_step function_step method_step bracketed_step elements_step next_element_step block_step declaration_step else_if_step if_clause_step (Link-F.TaggedTemplate template))
+
 pub is_OptionalDot : (y : Link) (dot : Token) (name : Token) (text : List ℕ) (setting : Setting) (role : Role) → y ≡ l.OptionalDot dot name → breaches_of_link y text setting role ≡ together ([])
 unfolding facts_of_link breaches_of_link shape_of_link
 is_OptionalDot y dot name text setting role h = ap (λ z. breaches_of_link z text setting role) h ∙ ap (λ f. f.breaches text setting role) (ap facts_of_link (sym (l.rolls-OptionalDot dot name)) ∙ fold-roll-Link ClassElementFacts HeritageFacts ExpressionFacts LinkFacts TellingBy ElementFacts PropertyNameFacts Telling Telling Telling TellingAs Telling Telling StatementFacts ClassFacts Telling Telling SubstitutionsFacts FunctionFacts MethodFacts BracketedFacts ElementsFacts NextElementFacts BlockFacts Telling Telling Telling class_element_step heritage_step expression_step link_step concise_body_step element_step property_name_step case_clause_step else_step finalizer_step for_start_step handler_step maybe_expression_step statement_step class_step operand_step substitution_step substitutions_step function_step method_step bracketed_step elements_step next_element_step block_step declaration_step else_if_step if_clause_step (Link-F.OptionalDot dot name))
@@ -332,6 +457,10 @@ is_OptionalDot y dot name text setting role h = ap (λ z. breaches_of_link z tex
 pub shape_OptionalDot : (y : Link) (dot : Token) (name : Token) → y ≡ l.OptionalDot dot name → shape_of_link y ≡ optional_link
 unfolding facts_of_link breaches_of_link shape_of_link
 shape_OptionalDot y dot name h = ap shape_of_link h ∙ ap (λ f. f.shape) (ap facts_of_link (sym (l.rolls-OptionalDot dot name)) ∙ fold-roll-Link ClassElementFacts HeritageFacts ExpressionFacts LinkFacts TellingBy ElementFacts PropertyNameFacts Telling Telling Telling TellingAs Telling Telling StatementFacts ClassFacts Telling Telling SubstitutionsFacts FunctionFacts MethodFacts BracketedFacts ElementsFacts NextElementFacts BlockFacts Telling Telling Telling class_element_step heritage_step expression_step link_step concise_body_step element_step property_name_step case_clause_step else_step finalizer_step for_start_step handler_step maybe_expression_step statement_step class_step operand_step substitution_step substitutions_step function_step method_step bracketed_step elements_step next_element_step block_step declaration_step else_if_step if_clause_step (Link-F.OptionalDot dot name))
+
+pub names_OptionalDot : (y : Link) (dot : Token) (name : Token) → y ≡ l.OptionalDot dot name → names_of_link y ≡ []
+unfolding facts_of_link breaches_of_link shape_of_link names_of_link
+names_OptionalDot y dot name h = ap names_of_link h ∙ ap (λ f. f.names) (ap facts_of_link (sym (l.rolls-OptionalDot dot name)) ∙ fold-roll-Link ClassElementFacts HeritageFacts ExpressionFacts LinkFacts TellingBy ElementFacts PropertyNameFacts Telling Telling Telling TellingAs Telling Telling StatementFacts ClassFacts Telling Telling SubstitutionsFacts FunctionFacts MethodFacts BracketedFacts ElementsFacts NextElementFacts BlockFacts Telling Telling Telling class_element_step heritage_step expression_step link_step concise_body_step element_step property_name_step case_clause_step else_step finalizer_step for_start_step handler_step maybe_expression_step statement_step class_step operand_step substitution_step substitutions_step function_step method_step bracketed_step elements_step next_element_step block_step declaration_step else_if_step if_clause_step (Link-F.OptionalDot dot name))
 
 pub is_OptionalIndex : (y : Link) (dot : Token) (begin : Token) (x : Expression) (ending : Token) (text : List ℕ) (setting : Setting) (role : Role) → y ≡ l.OptionalIndex dot begin x ending → breaches_of_link y text setting role ≡ breaches_of_expression x text setting r.Value
 unfolding facts_of_link breaches_of_link shape_of_link facts_of_expression breaches_of_expression shape_of_expression
@@ -341,6 +470,10 @@ pub shape_OptionalIndex : (y : Link) (dot : Token) (begin : Token) (x : Expressi
 unfolding facts_of_link breaches_of_link shape_of_link facts_of_expression breaches_of_expression shape_of_expression
 shape_OptionalIndex y dot begin x ending h = ap shape_of_link h ∙ ap (λ f. f.shape) (ap facts_of_link (sym (l.rolls-OptionalIndex dot begin x ending)) ∙ fold-roll-Link ClassElementFacts HeritageFacts ExpressionFacts LinkFacts TellingBy ElementFacts PropertyNameFacts Telling Telling Telling TellingAs Telling Telling StatementFacts ClassFacts Telling Telling SubstitutionsFacts FunctionFacts MethodFacts BracketedFacts ElementsFacts NextElementFacts BlockFacts Telling Telling Telling class_element_step heritage_step expression_step link_step concise_body_step element_step property_name_step case_clause_step else_step finalizer_step for_start_step handler_step maybe_expression_step statement_step class_step operand_step substitution_step substitutions_step function_step method_step bracketed_step elements_step next_element_step block_step declaration_step else_if_step if_clause_step (Link-F.OptionalIndex dot begin x ending))
 
+pub names_OptionalIndex : (y : Link) (dot : Token) (begin : Token) (x : Expression) (ending : Token) → y ≡ l.OptionalIndex dot begin x ending → names_of_link y ≡ []
+unfolding facts_of_link breaches_of_link shape_of_link names_of_link facts_of_expression breaches_of_expression shape_of_expression names_of_expression
+names_OptionalIndex y dot begin x ending h = ap names_of_link h ∙ ap (λ f. f.names) (ap facts_of_link (sym (l.rolls-OptionalIndex dot begin x ending)) ∙ fold-roll-Link ClassElementFacts HeritageFacts ExpressionFacts LinkFacts TellingBy ElementFacts PropertyNameFacts Telling Telling Telling TellingAs Telling Telling StatementFacts ClassFacts Telling Telling SubstitutionsFacts FunctionFacts MethodFacts BracketedFacts ElementsFacts NextElementFacts BlockFacts Telling Telling Telling class_element_step heritage_step expression_step link_step concise_body_step element_step property_name_step case_clause_step else_step finalizer_step for_start_step handler_step maybe_expression_step statement_step class_step operand_step substitution_step substitutions_step function_step method_step bracketed_step elements_step next_element_step block_step declaration_step else_if_step if_clause_step (Link-F.OptionalIndex dot begin x ending))
+
 pub is_OptionalCall : (y : Link) (dot : Token) (arguments : Bracketed) (text : List ℕ) (setting : Setting) (role : Role) → y ≡ l.OptionalCall dot arguments → breaches_of_link y text setting role ≡ breaches_of_bracketed arguments text setting lr.Values
 unfolding facts_of_link breaches_of_link shape_of_link facts_of_bracketed breaches_of_bracketed shape_of_bracketed
 is_OptionalCall y dot arguments text setting role h = ap (λ z. breaches_of_link z text setting role) h ∙ ap (λ f. f.breaches text setting role) (ap facts_of_link (sym (l.rolls-OptionalCall dot arguments)) ∙ fold-roll-Link ClassElementFacts HeritageFacts ExpressionFacts LinkFacts TellingBy ElementFacts PropertyNameFacts Telling Telling Telling TellingAs Telling Telling StatementFacts ClassFacts Telling Telling SubstitutionsFacts FunctionFacts MethodFacts BracketedFacts ElementsFacts NextElementFacts BlockFacts Telling Telling Telling class_element_step heritage_step expression_step link_step concise_body_step element_step property_name_step case_clause_step else_step finalizer_step for_start_step handler_step maybe_expression_step statement_step class_step operand_step substitution_step substitutions_step function_step method_step bracketed_step elements_step next_element_step block_step declaration_step else_if_step if_clause_step (Link-F.OptionalCall dot arguments))
@@ -348,6 +481,10 @@ is_OptionalCall y dot arguments text setting role h = ap (λ z. breaches_of_link
 pub shape_OptionalCall : (y : Link) (dot : Token) (arguments : Bracketed) → y ≡ l.OptionalCall dot arguments → shape_of_link y ≡ optional_link
 unfolding facts_of_link breaches_of_link shape_of_link facts_of_bracketed breaches_of_bracketed shape_of_bracketed
 shape_OptionalCall y dot arguments h = ap shape_of_link h ∙ ap (λ f. f.shape) (ap facts_of_link (sym (l.rolls-OptionalCall dot arguments)) ∙ fold-roll-Link ClassElementFacts HeritageFacts ExpressionFacts LinkFacts TellingBy ElementFacts PropertyNameFacts Telling Telling Telling TellingAs Telling Telling StatementFacts ClassFacts Telling Telling SubstitutionsFacts FunctionFacts MethodFacts BracketedFacts ElementsFacts NextElementFacts BlockFacts Telling Telling Telling class_element_step heritage_step expression_step link_step concise_body_step element_step property_name_step case_clause_step else_step finalizer_step for_start_step handler_step maybe_expression_step statement_step class_step operand_step substitution_step substitutions_step function_step method_step bracketed_step elements_step next_element_step block_step declaration_step else_if_step if_clause_step (Link-F.OptionalCall dot arguments))
+
+pub names_OptionalCall : (y : Link) (dot : Token) (arguments : Bracketed) → y ≡ l.OptionalCall dot arguments → names_of_link y ≡ []
+unfolding facts_of_link breaches_of_link shape_of_link names_of_link facts_of_bracketed breaches_of_bracketed shape_of_bracketed names_of_bracketed
+names_OptionalCall y dot arguments h = ap names_of_link h ∙ ap (λ f. f.names) (ap facts_of_link (sym (l.rolls-OptionalCall dot arguments)) ∙ fold-roll-Link ClassElementFacts HeritageFacts ExpressionFacts LinkFacts TellingBy ElementFacts PropertyNameFacts Telling Telling Telling TellingAs Telling Telling StatementFacts ClassFacts Telling Telling SubstitutionsFacts FunctionFacts MethodFacts BracketedFacts ElementsFacts NextElementFacts BlockFacts Telling Telling Telling class_element_step heritage_step expression_step link_step concise_body_step element_step property_name_step case_clause_step else_step finalizer_step for_start_step handler_step maybe_expression_step statement_step class_step operand_step substitution_step substitutions_step function_step method_step bracketed_step elements_step next_element_step block_step declaration_step else_if_step if_clause_step (Link-F.OptionalCall dot arguments))
 
 pub is_ConciseValue : (y : ConciseBody) (x : Expression) (text : List ℕ) (setting : Setting) (is_plain : Bool) → y ≡ cb.ConciseValue x → breaches_of_concise_body y text setting is_plain ≡ breaches_of_expression x text setting r.Value
 unfolding breaches_of_concise_body facts_of_expression breaches_of_expression shape_of_expression
@@ -365,6 +502,10 @@ pub shape_Hole : (y : Element) → y ≡ el.Hole → shape_of_element y ≡ hole
 unfolding facts_of_element breaches_of_element shape_of_element
 shape_Hole y h = ap shape_of_element h ∙ ap (λ f. f.shape) (ap facts_of_element (sym (el.rolls-Hole)) ∙ fold-roll-Element ClassElementFacts HeritageFacts ExpressionFacts LinkFacts TellingBy ElementFacts PropertyNameFacts Telling Telling Telling TellingAs Telling Telling StatementFacts ClassFacts Telling Telling SubstitutionsFacts FunctionFacts MethodFacts BracketedFacts ElementsFacts NextElementFacts BlockFacts Telling Telling Telling class_element_step heritage_step expression_step link_step concise_body_step element_step property_name_step case_clause_step else_step finalizer_step for_start_step handler_step maybe_expression_step statement_step class_step operand_step substitution_step substitutions_step function_step method_step bracketed_step elements_step next_element_step block_step declaration_step else_if_step if_clause_step (Element-F.Hole))
 
+pub names_Hole : (y : Element) → y ≡ el.Hole → names_of_element y ≡ []
+unfolding facts_of_element breaches_of_element shape_of_element names_of_element
+names_Hole y h = ap names_of_element h ∙ ap (λ f. f.names) (ap facts_of_element (sym (el.rolls-Hole)) ∙ fold-roll-Element ClassElementFacts HeritageFacts ExpressionFacts LinkFacts TellingBy ElementFacts PropertyNameFacts Telling Telling Telling TellingAs Telling Telling StatementFacts ClassFacts Telling Telling SubstitutionsFacts FunctionFacts MethodFacts BracketedFacts ElementsFacts NextElementFacts BlockFacts Telling Telling Telling class_element_step heritage_step expression_step link_step concise_body_step element_step property_name_step case_clause_step else_step finalizer_step for_start_step handler_step maybe_expression_step statement_step class_step operand_step substitution_step substitutions_step function_step method_step bracketed_step elements_step next_element_step block_step declaration_step else_if_step if_clause_step (Element-F.Hole))
+
 pub is_Value : (y : Element) (x : Expression) (text : List ℕ) (setting : Setting) (place : Place) → y ≡ el.Value x → breaches_of_element y text setting place ≡ breaches_of_expression x text setting (element_role place)
 unfolding facts_of_element breaches_of_element shape_of_element facts_of_expression breaches_of_expression shape_of_expression
 is_Value y x text setting place h = ap (λ z. breaches_of_element z text setting place) h ∙ ap (λ f. f.breaches text setting place) (ap facts_of_element (sym (el.rolls-Value x)) ∙ fold-roll-Element ClassElementFacts HeritageFacts ExpressionFacts LinkFacts TellingBy ElementFacts PropertyNameFacts Telling Telling Telling TellingAs Telling Telling StatementFacts ClassFacts Telling Telling SubstitutionsFacts FunctionFacts MethodFacts BracketedFacts ElementsFacts NextElementFacts BlockFacts Telling Telling Telling class_element_step heritage_step expression_step link_step concise_body_step element_step property_name_step case_clause_step else_step finalizer_step for_start_step handler_step maybe_expression_step statement_step class_step operand_step substitution_step substitutions_step function_step method_step bracketed_step elements_step next_element_step block_step declaration_step else_if_step if_clause_step (Element-F.Value x))
@@ -372,6 +513,10 @@ is_Value y x text setting place h = ap (λ z. breaches_of_element z text setting
 pub shape_Value : (y : Element) (x : Expression) → y ≡ el.Value x → shape_of_element y ≡ value_shape (shape_of_expression x)
 unfolding facts_of_element breaches_of_element shape_of_element facts_of_expression breaches_of_expression shape_of_expression
 shape_Value y x h = ap shape_of_element h ∙ ap (λ f. f.shape) (ap facts_of_element (sym (el.rolls-Value x)) ∙ fold-roll-Element ClassElementFacts HeritageFacts ExpressionFacts LinkFacts TellingBy ElementFacts PropertyNameFacts Telling Telling Telling TellingAs Telling Telling StatementFacts ClassFacts Telling Telling SubstitutionsFacts FunctionFacts MethodFacts BracketedFacts ElementsFacts NextElementFacts BlockFacts Telling Telling Telling class_element_step heritage_step expression_step link_step concise_body_step element_step property_name_step case_clause_step else_step finalizer_step for_start_step handler_step maybe_expression_step statement_step class_step operand_step substitution_step substitutions_step function_step method_step bracketed_step elements_step next_element_step block_step declaration_step else_if_step if_clause_step (Element-F.Value x))
+
+pub names_Value : (y : Element) (x : Expression) → y ≡ el.Value x → names_of_element y ≡ names_of_expression x
+unfolding facts_of_element breaches_of_element shape_of_element names_of_element facts_of_expression breaches_of_expression shape_of_expression names_of_expression
+names_Value y x h = ap names_of_element h ∙ ap (λ f. f.names) (ap facts_of_element (sym (el.rolls-Value x)) ∙ fold-roll-Element ClassElementFacts HeritageFacts ExpressionFacts LinkFacts TellingBy ElementFacts PropertyNameFacts Telling Telling Telling TellingAs Telling Telling StatementFacts ClassFacts Telling Telling SubstitutionsFacts FunctionFacts MethodFacts BracketedFacts ElementsFacts NextElementFacts BlockFacts Telling Telling Telling class_element_step heritage_step expression_step link_step concise_body_step element_step property_name_step case_clause_step else_step finalizer_step for_start_step handler_step maybe_expression_step statement_step class_step operand_step substitution_step substitutions_step function_step method_step bracketed_step elements_step next_element_step block_step declaration_step else_if_step if_clause_step (Element-F.Value x))
 
 pub is_Spread : (y : Element) (dots : Token) (x : Expression) (text : List ℕ) (setting : Setting) (place : Place) → y ≡ el.Spread dots x → breaches_of_element y text setting place ≡ together (breaches_of_expression x text setting (spread_role place) ∷ spread_breaches place ∷ [])
 unfolding facts_of_element breaches_of_element shape_of_element facts_of_expression breaches_of_expression shape_of_expression
@@ -381,6 +526,10 @@ pub shape_Spread : (y : Element) (dots : Token) (x : Expression) → y ≡ el.Sp
 unfolding facts_of_element breaches_of_element shape_of_element facts_of_expression breaches_of_expression shape_of_expression
 shape_Spread y dots x h = ap shape_of_element h ∙ ap (λ f. f.shape) (ap facts_of_element (sym (el.rolls-Spread dots x)) ∙ fold-roll-Element ClassElementFacts HeritageFacts ExpressionFacts LinkFacts TellingBy ElementFacts PropertyNameFacts Telling Telling Telling TellingAs Telling Telling StatementFacts ClassFacts Telling Telling SubstitutionsFacts FunctionFacts MethodFacts BracketedFacts ElementsFacts NextElementFacts BlockFacts Telling Telling Telling class_element_step heritage_step expression_step link_step concise_body_step element_step property_name_step case_clause_step else_step finalizer_step for_start_step handler_step maybe_expression_step statement_step class_step operand_step substitution_step substitutions_step function_step method_step bracketed_step elements_step next_element_step block_step declaration_step else_if_step if_clause_step (Element-F.Spread dots x))
 
+pub names_Spread : (y : Element) (dots : Token) (x : Expression) → y ≡ el.Spread dots x → names_of_element y ≡ names_of_expression x
+unfolding facts_of_element breaches_of_element shape_of_element names_of_element facts_of_expression breaches_of_expression shape_of_expression names_of_expression
+names_Spread y dots x h = ap names_of_element h ∙ ap (λ f. f.names) (ap facts_of_element (sym (el.rolls-Spread dots x)) ∙ fold-roll-Element ClassElementFacts HeritageFacts ExpressionFacts LinkFacts TellingBy ElementFacts PropertyNameFacts Telling Telling Telling TellingAs Telling Telling StatementFacts ClassFacts Telling Telling SubstitutionsFacts FunctionFacts MethodFacts BracketedFacts ElementsFacts NextElementFacts BlockFacts Telling Telling Telling class_element_step heritage_step expression_step link_step concise_body_step element_step property_name_step case_clause_step else_step finalizer_step for_start_step handler_step maybe_expression_step statement_step class_step operand_step substitution_step substitutions_step function_step method_step bracketed_step elements_step next_element_step block_step declaration_step else_if_step if_clause_step (Element-F.Spread dots x))
+
 pub is_Shorthand : (y : Element) (name : Token) (text : List ℕ) (setting : Setting) (place : Place) → y ≡ el.Shorthand name → breaches_of_element y text setting place ≡ shorthand_breaches text name place
 unfolding facts_of_element breaches_of_element shape_of_element
 is_Shorthand y name text setting place h = ap (λ z. breaches_of_element z text setting place) h ∙ ap (λ f. f.breaches text setting place) (ap facts_of_element (sym (el.rolls-Shorthand name)) ∙ fold-roll-Element ClassElementFacts HeritageFacts ExpressionFacts LinkFacts TellingBy ElementFacts PropertyNameFacts Telling Telling Telling TellingAs Telling Telling StatementFacts ClassFacts Telling Telling SubstitutionsFacts FunctionFacts MethodFacts BracketedFacts ElementsFacts NextElementFacts BlockFacts Telling Telling Telling class_element_step heritage_step expression_step link_step concise_body_step element_step property_name_step case_clause_step else_step finalizer_step for_start_step handler_step maybe_expression_step statement_step class_step operand_step substitution_step substitutions_step function_step method_step bracketed_step elements_step next_element_step block_step declaration_step else_if_step if_clause_step (Element-F.Shorthand name))
@@ -388,6 +537,10 @@ is_Shorthand y name text setting place h = ap (λ z. breaches_of_element z text 
 pub shape_Shorthand : (y : Element) (name : Token) → y ≡ el.Shorthand name → shape_of_element y ≡ other_element
 unfolding facts_of_element breaches_of_element shape_of_element
 shape_Shorthand y name h = ap shape_of_element h ∙ ap (λ f. f.shape) (ap facts_of_element (sym (el.rolls-Shorthand name)) ∙ fold-roll-Element ClassElementFacts HeritageFacts ExpressionFacts LinkFacts TellingBy ElementFacts PropertyNameFacts Telling Telling Telling TellingAs Telling Telling StatementFacts ClassFacts Telling Telling SubstitutionsFacts FunctionFacts MethodFacts BracketedFacts ElementsFacts NextElementFacts BlockFacts Telling Telling Telling class_element_step heritage_step expression_step link_step concise_body_step element_step property_name_step case_clause_step else_step finalizer_step for_start_step handler_step maybe_expression_step statement_step class_step operand_step substitution_step substitutions_step function_step method_step bracketed_step elements_step next_element_step block_step declaration_step else_if_step if_clause_step (Element-F.Shorthand name))
+
+pub names_Shorthand : (y : Element) (name : Token) → y ≡ el.Shorthand name → names_of_element y ≡ name ∷ []
+unfolding facts_of_element breaches_of_element shape_of_element names_of_element
+names_Shorthand y name h = ap names_of_element h ∙ ap (λ f. f.names) (ap facts_of_element (sym (el.rolls-Shorthand name)) ∙ fold-roll-Element ClassElementFacts HeritageFacts ExpressionFacts LinkFacts TellingBy ElementFacts PropertyNameFacts Telling Telling Telling TellingAs Telling Telling StatementFacts ClassFacts Telling Telling SubstitutionsFacts FunctionFacts MethodFacts BracketedFacts ElementsFacts NextElementFacts BlockFacts Telling Telling Telling class_element_step heritage_step expression_step link_step concise_body_step element_step property_name_step case_clause_step else_step finalizer_step for_start_step handler_step maybe_expression_step statement_step class_step operand_step substitution_step substitutions_step function_step method_step bracketed_step elements_step next_element_step block_step declaration_step else_if_step if_clause_step (Element-F.Shorthand name))
 
 pub is_Initialized : (y : Element) (name : Token) (sign : Token) (x : Expression) (text : List ℕ) (setting : Setting) (place : Place) → y ≡ el.Initialized name sign x → breaches_of_element y text setting place ≡ together (breaches_of_expression x text setting r.Value ∷ initialized_breaches text name sign place ∷ [])
 unfolding facts_of_element breaches_of_element shape_of_element facts_of_expression breaches_of_expression shape_of_expression
@@ -397,6 +550,10 @@ pub shape_Initialized : (y : Element) (name : Token) (sign : Token) (x : Express
 unfolding facts_of_element breaches_of_element shape_of_element facts_of_expression breaches_of_expression shape_of_expression
 shape_Initialized y name sign x h = ap shape_of_element h ∙ ap (λ f. f.shape) (ap facts_of_element (sym (el.rolls-Initialized name sign x)) ∙ fold-roll-Element ClassElementFacts HeritageFacts ExpressionFacts LinkFacts TellingBy ElementFacts PropertyNameFacts Telling Telling Telling TellingAs Telling Telling StatementFacts ClassFacts Telling Telling SubstitutionsFacts FunctionFacts MethodFacts BracketedFacts ElementsFacts NextElementFacts BlockFacts Telling Telling Telling class_element_step heritage_step expression_step link_step concise_body_step element_step property_name_step case_clause_step else_step finalizer_step for_start_step handler_step maybe_expression_step statement_step class_step operand_step substitution_step substitutions_step function_step method_step bracketed_step elements_step next_element_step block_step declaration_step else_if_step if_clause_step (Element-F.Initialized name sign x))
 
+pub names_Initialized : (y : Element) (name : Token) (sign : Token) (x : Expression) → y ≡ el.Initialized name sign x → names_of_element y ≡ name ∷ []
+unfolding facts_of_element breaches_of_element shape_of_element names_of_element facts_of_expression breaches_of_expression shape_of_expression names_of_expression
+names_Initialized y name sign x h = ap names_of_element h ∙ ap (λ f. f.names) (ap facts_of_element (sym (el.rolls-Initialized name sign x)) ∙ fold-roll-Element ClassElementFacts HeritageFacts ExpressionFacts LinkFacts TellingBy ElementFacts PropertyNameFacts Telling Telling Telling TellingAs Telling Telling StatementFacts ClassFacts Telling Telling SubstitutionsFacts FunctionFacts MethodFacts BracketedFacts ElementsFacts NextElementFacts BlockFacts Telling Telling Telling class_element_step heritage_step expression_step link_step concise_body_step element_step property_name_step case_clause_step else_step finalizer_step for_start_step handler_step maybe_expression_step statement_step class_step operand_step substitution_step substitutions_step function_step method_step bracketed_step elements_step next_element_step block_step declaration_step else_if_step if_clause_step (Element-F.Initialized name sign x))
+
 pub is_Property : (y : Element) (name : PropertyName) (colon : Token) (x : Expression) (text : List ℕ) (setting : Setting) (place : Place) → y ≡ el.Property name colon x → breaches_of_element y text setting place ≡ together (breaches_of_property_name name text setting ∷ breaches_of_expression x text setting (element_role place) ∷ [])
 unfolding facts_of_element breaches_of_element shape_of_element facts_of_property_name breaches_of_property_name shape_of_property_name facts_of_expression breaches_of_expression shape_of_expression
 is_Property y name colon x text setting place h = ap (λ z. breaches_of_element z text setting place) h ∙ ap (λ f. f.breaches text setting place) (ap facts_of_element (sym (el.rolls-Property name colon x)) ∙ fold-roll-Element ClassElementFacts HeritageFacts ExpressionFacts LinkFacts TellingBy ElementFacts PropertyNameFacts Telling Telling Telling TellingAs Telling Telling StatementFacts ClassFacts Telling Telling SubstitutionsFacts FunctionFacts MethodFacts BracketedFacts ElementsFacts NextElementFacts BlockFacts Telling Telling Telling class_element_step heritage_step expression_step link_step concise_body_step element_step property_name_step case_clause_step else_step finalizer_step for_start_step handler_step maybe_expression_step statement_step class_step operand_step substitution_step substitutions_step function_step method_step bracketed_step elements_step next_element_step block_step declaration_step else_if_step if_clause_step (Element-F.Property name colon x))
@@ -405,6 +562,10 @@ pub shape_Property : (y : Element) (name : PropertyName) (colon : Token) (x : Ex
 unfolding facts_of_element breaches_of_element shape_of_element facts_of_property_name breaches_of_property_name shape_of_property_name facts_of_expression breaches_of_expression shape_of_expression
 shape_Property y name colon x h = ap shape_of_element h ∙ ap (λ f. f.shape) (ap facts_of_element (sym (el.rolls-Property name colon x)) ∙ fold-roll-Element ClassElementFacts HeritageFacts ExpressionFacts LinkFacts TellingBy ElementFacts PropertyNameFacts Telling Telling Telling TellingAs Telling Telling StatementFacts ClassFacts Telling Telling SubstitutionsFacts FunctionFacts MethodFacts BracketedFacts ElementsFacts NextElementFacts BlockFacts Telling Telling Telling class_element_step heritage_step expression_step link_step concise_body_step element_step property_name_step case_clause_step else_step finalizer_step for_start_step handler_step maybe_expression_step statement_step class_step operand_step substitution_step substitutions_step function_step method_step bracketed_step elements_step next_element_step block_step declaration_step else_if_step if_clause_step (Element-F.Property name colon x))
 
+pub names_Property : (y : Element) (name : PropertyName) (colon : Token) (x : Expression) → y ≡ el.Property name colon x → names_of_element y ≡ names_of_expression x
+unfolding facts_of_element breaches_of_element shape_of_element names_of_element facts_of_property_name breaches_of_property_name shape_of_property_name facts_of_expression breaches_of_expression shape_of_expression names_of_expression
+names_Property y name colon x h = ap names_of_element h ∙ ap (λ f. f.names) (ap facts_of_element (sym (el.rolls-Property name colon x)) ∙ fold-roll-Element ClassElementFacts HeritageFacts ExpressionFacts LinkFacts TellingBy ElementFacts PropertyNameFacts Telling Telling Telling TellingAs Telling Telling StatementFacts ClassFacts Telling Telling SubstitutionsFacts FunctionFacts MethodFacts BracketedFacts ElementsFacts NextElementFacts BlockFacts Telling Telling Telling class_element_step heritage_step expression_step link_step concise_body_step element_step property_name_step case_clause_step else_step finalizer_step for_start_step handler_step maybe_expression_step statement_step class_step operand_step substitution_step substitutions_step function_step method_step bracketed_step elements_step next_element_step block_step declaration_step else_if_step if_clause_step (Element-F.Property name colon x))
+
 pub is_MethodProperty : (y : Element) (method : Method) (text : List ℕ) (setting : Setting) (place : Place) → y ≡ el.MethodProperty method → breaches_of_element y text setting place ≡ together (breaches_of_method method text setting false false ∷ method_property_breaches place ∷ [])
 unfolding facts_of_element breaches_of_element shape_of_element facts_of_method breaches_of_method shape_of_method
 is_MethodProperty y method text setting place h = ap (λ z. breaches_of_element z text setting place) h ∙ ap (λ f. f.breaches text setting place) (ap facts_of_element (sym (el.rolls-MethodProperty method)) ∙ fold-roll-Element ClassElementFacts HeritageFacts ExpressionFacts LinkFacts TellingBy ElementFacts PropertyNameFacts Telling Telling Telling TellingAs Telling Telling StatementFacts ClassFacts Telling Telling SubstitutionsFacts FunctionFacts MethodFacts BracketedFacts ElementsFacts NextElementFacts BlockFacts Telling Telling Telling class_element_step heritage_step expression_step link_step concise_body_step element_step property_name_step case_clause_step else_step finalizer_step for_start_step handler_step maybe_expression_step statement_step class_step operand_step substitution_step substitutions_step function_step method_step bracketed_step elements_step next_element_step block_step declaration_step else_if_step if_clause_step (Element-F.MethodProperty method))
@@ -412,6 +573,10 @@ is_MethodProperty y method text setting place h = ap (λ z. breaches_of_element 
 pub shape_MethodProperty : (y : Element) (method : Method) → y ≡ el.MethodProperty method → shape_of_element y ≡ other_element
 unfolding facts_of_element breaches_of_element shape_of_element facts_of_method breaches_of_method shape_of_method
 shape_MethodProperty y method h = ap shape_of_element h ∙ ap (λ f. f.shape) (ap facts_of_element (sym (el.rolls-MethodProperty method)) ∙ fold-roll-Element ClassElementFacts HeritageFacts ExpressionFacts LinkFacts TellingBy ElementFacts PropertyNameFacts Telling Telling Telling TellingAs Telling Telling StatementFacts ClassFacts Telling Telling SubstitutionsFacts FunctionFacts MethodFacts BracketedFacts ElementsFacts NextElementFacts BlockFacts Telling Telling Telling class_element_step heritage_step expression_step link_step concise_body_step element_step property_name_step case_clause_step else_step finalizer_step for_start_step handler_step maybe_expression_step statement_step class_step operand_step substitution_step substitutions_step function_step method_step bracketed_step elements_step next_element_step block_step declaration_step else_if_step if_clause_step (Element-F.MethodProperty method))
+
+pub names_MethodProperty : (y : Element) (method : Method) → y ≡ el.MethodProperty method → names_of_element y ≡ []
+unfolding facts_of_element breaches_of_element shape_of_element names_of_element facts_of_method breaches_of_method shape_of_method
+names_MethodProperty y method h = ap names_of_element h ∙ ap (λ f. f.names) (ap facts_of_element (sym (el.rolls-MethodProperty method)) ∙ fold-roll-Element ClassElementFacts HeritageFacts ExpressionFacts LinkFacts TellingBy ElementFacts PropertyNameFacts Telling Telling Telling TellingAs Telling Telling StatementFacts ClassFacts Telling Telling SubstitutionsFacts FunctionFacts MethodFacts BracketedFacts ElementsFacts NextElementFacts BlockFacts Telling Telling Telling class_element_step heritage_step expression_step link_step concise_body_step element_step property_name_step case_clause_step else_step finalizer_step for_start_step handler_step maybe_expression_step statement_step class_step operand_step substitution_step substitutions_step function_step method_step bracketed_step elements_step next_element_step block_step declaration_step else_if_step if_clause_step (Element-F.MethodProperty method))
 
 pub is_Named : (y : PropertyName) (name : Token) (text : List ℕ) (setting : Setting) → y ≡ pn.Named name → breaches_of_property_name y text setting ≡ together ([])
 unfolding facts_of_property_name breaches_of_property_name shape_of_property_name
@@ -755,29 +920,29 @@ shaped_Substitutions head first rest tail = ap (λ f. f.shape) (fold-roll-Substi
 pub shape_at_Substitutions : (y : Substitutions) → shape_of_substitutions y ≡ (out-Substitutions y).head.start
 shape_at_Substitutions y = ap shape_of_substitutions (sym (roll-out-Substitutions y)) ∙ shaped_Substitutions (out-Substitutions y).head (out-Substitutions y).first (out-Substitutions y).rest (out-Substitutions y).tail
 
-made_Function : (async_word : Option Token) (word : Token) (star : Option Token) (name : Option Token) (parameters : Bracketed) (body : Block) (text : List ℕ) (setting : Setting) → breaches_of_function (roll-Function (record { async_word = async_word; word = word; star = star; name = name; parameters = parameters; body = body })) text setting ≡ together (declared_breaches text name ∷ breaches_of_bracketed parameters text of_function_parameters lr.ArrayPattern ∷ unlabelled (breaches_of_block body text of_function) ∷ strict_breaches (shape_of_bracketed parameters).is_plain (use_strict_of_block body text) ∷ [])
-unfolding facts_of_function breaches_of_function shape_of_function facts_of_bracketed breaches_of_bracketed shape_of_bracketed facts_of_block breaches_of_block use_strict_of_block
+made_Function : (async_word : Option Token) (word : Token) (star : Option Token) (name : Option Token) (parameters : Bracketed) (body : Block) (text : List ℕ) (setting : Setting) → breaches_of_function (roll-Function (record { async_word = async_word; word = word; star = star; name = name; parameters = parameters; body = body })) text setting ≡ together (declared_breaches text name ∷ repeated_breaches text (names_of_bracketed parameters) ∷ breaches_of_bracketed parameters text of_function_parameters lr.ArrayPattern ∷ unlabelled (breaches_of_block body text of_function) ∷ strict_breaches (shape_of_bracketed parameters).is_plain (use_strict_of_block body text) ∷ [])
+unfolding facts_of_function breaches_of_function shape_of_function facts_of_bracketed breaches_of_bracketed shape_of_bracketed names_of_bracketed facts_of_block breaches_of_block use_strict_of_block
 made_Function async_word word star name parameters body text setting = ap (λ f. f.breaches text setting) (fold-roll-Function ClassElementFacts HeritageFacts ExpressionFacts LinkFacts TellingBy ElementFacts PropertyNameFacts Telling Telling Telling TellingAs Telling Telling StatementFacts ClassFacts Telling Telling SubstitutionsFacts FunctionFacts MethodFacts BracketedFacts ElementsFacts NextElementFacts BlockFacts Telling Telling Telling class_element_step heritage_step expression_step link_step concise_body_step element_step property_name_step case_clause_step else_step finalizer_step for_start_step handler_step maybe_expression_step statement_step class_step operand_step substitution_step substitutions_step function_step method_step bracketed_step elements_step next_element_step block_step declaration_step else_if_step if_clause_step (record { async_word = async_word; word = word; star = star; name = name; parameters = parameters; body = body }))
 
-pub at_Function : (y : Function) (text : List ℕ) (setting : Setting) → breaches_of_function y text setting ≡ together (declared_breaches text (out-Function y).name ∷ breaches_of_bracketed (out-Function y).parameters text of_function_parameters lr.ArrayPattern ∷ unlabelled (breaches_of_block (out-Function y).body text of_function) ∷ strict_breaches (shape_of_bracketed (out-Function y).parameters).is_plain (use_strict_of_block (out-Function y).body text) ∷ [])
+pub at_Function : (y : Function) (text : List ℕ) (setting : Setting) → breaches_of_function y text setting ≡ together (declared_breaches text (out-Function y).name ∷ repeated_breaches text (names_of_bracketed (out-Function y).parameters) ∷ breaches_of_bracketed (out-Function y).parameters text of_function_parameters lr.ArrayPattern ∷ unlabelled (breaches_of_block (out-Function y).body text of_function) ∷ strict_breaches (shape_of_bracketed (out-Function y).parameters).is_plain (use_strict_of_block (out-Function y).body text) ∷ [])
 at_Function y text setting = ap (λ z. breaches_of_function z text setting) (sym (roll-out-Function y)) ∙ made_Function (out-Function y).async_word (out-Function y).word (out-Function y).star (out-Function y).name (out-Function y).parameters (out-Function y).body text setting
 
 shaped_Function : (async_word : Option Token) (word : Token) (star : Option Token) (name : Option Token) (parameters : Bracketed) (body : Block) → shape_of_function (roll-Function (record { async_word = async_word; word = word; star = star; name = name; parameters = parameters; body = body })) ≡ start_of_function async_word word
-unfolding facts_of_function breaches_of_function shape_of_function facts_of_bracketed breaches_of_bracketed shape_of_bracketed facts_of_block breaches_of_block use_strict_of_block
+unfolding facts_of_function breaches_of_function shape_of_function facts_of_bracketed breaches_of_bracketed shape_of_bracketed names_of_bracketed facts_of_block breaches_of_block use_strict_of_block
 shaped_Function async_word word star name parameters body = ap (λ f. f.shape) (fold-roll-Function ClassElementFacts HeritageFacts ExpressionFacts LinkFacts TellingBy ElementFacts PropertyNameFacts Telling Telling Telling TellingAs Telling Telling StatementFacts ClassFacts Telling Telling SubstitutionsFacts FunctionFacts MethodFacts BracketedFacts ElementsFacts NextElementFacts BlockFacts Telling Telling Telling class_element_step heritage_step expression_step link_step concise_body_step element_step property_name_step case_clause_step else_step finalizer_step for_start_step handler_step maybe_expression_step statement_step class_step operand_step substitution_step substitutions_step function_step method_step bracketed_step elements_step next_element_step block_step declaration_step else_if_step if_clause_step (record { async_word = async_word; word = word; star = star; name = name; parameters = parameters; body = body }))
 
 pub shape_at_Function : (y : Function) → shape_of_function y ≡ start_of_function (out-Function y).async_word (out-Function y).word
 shape_at_Function y = ap shape_of_function (sym (roll-out-Function y)) ∙ shaped_Function (out-Function y).async_word (out-Function y).word (out-Function y).star (out-Function y).name (out-Function y).parameters (out-Function y).body
 
-made_Method : (word : Option Token) (star : Option Token) (name : PropertyName) (parameters : Bracketed) (body : Block) (text : List ℕ) (setting : Setting) (is_prototype : Bool) (is_derived : Bool) → breaches_of_method (roll-Method (record { word = word; star = star; name = name; parameters = parameters; body = body })) text setting is_prototype is_derived ≡ together (breaches_of_property_name name text setting ∷ constructor_breaches text is_prototype (shape_of_property_name name).key word star ∷ breaches_of_bracketed parameters text (of_method_parameters text is_prototype is_derived (shape_of_property_name name).key) lr.ArrayPattern ∷ accessor_breaches text word (shape_of_property_name name).start (shape_of_bracketed parameters).is_empty (shape_of_bracketed parameters).is_one_value ∷ unlabelled (breaches_of_block body text (of_named_method text is_prototype is_derived (shape_of_property_name name).key)) ∷ strict_breaches (shape_of_bracketed parameters).is_plain (use_strict_of_block body text) ∷ [])
-unfolding facts_of_method breaches_of_method shape_of_method facts_of_property_name breaches_of_property_name shape_of_property_name facts_of_bracketed breaches_of_bracketed shape_of_bracketed facts_of_block breaches_of_block use_strict_of_block
+made_Method : (word : Option Token) (star : Option Token) (name : PropertyName) (parameters : Bracketed) (body : Block) (text : List ℕ) (setting : Setting) (is_prototype : Bool) (is_derived : Bool) → breaches_of_method (roll-Method (record { word = word; star = star; name = name; parameters = parameters; body = body })) text setting is_prototype is_derived ≡ together (breaches_of_property_name name text setting ∷ constructor_breaches text is_prototype (shape_of_property_name name).key word star ∷ repeated_breaches text (names_of_bracketed parameters) ∷ breaches_of_bracketed parameters text (of_method_parameters text is_prototype is_derived (shape_of_property_name name).key) lr.ArrayPattern ∷ accessor_breaches text word (shape_of_property_name name).start (shape_of_bracketed parameters).is_empty (shape_of_bracketed parameters).is_one_value ∷ unlabelled (breaches_of_block body text (of_named_method text is_prototype is_derived (shape_of_property_name name).key)) ∷ strict_breaches (shape_of_bracketed parameters).is_plain (use_strict_of_block body text) ∷ [])
+unfolding facts_of_method breaches_of_method shape_of_method facts_of_property_name breaches_of_property_name shape_of_property_name facts_of_bracketed breaches_of_bracketed shape_of_bracketed names_of_bracketed facts_of_block breaches_of_block use_strict_of_block
 made_Method word star name parameters body text setting is_prototype is_derived = ap (λ f. f.breaches text setting is_prototype is_derived) (fold-roll-Method ClassElementFacts HeritageFacts ExpressionFacts LinkFacts TellingBy ElementFacts PropertyNameFacts Telling Telling Telling TellingAs Telling Telling StatementFacts ClassFacts Telling Telling SubstitutionsFacts FunctionFacts MethodFacts BracketedFacts ElementsFacts NextElementFacts BlockFacts Telling Telling Telling class_element_step heritage_step expression_step link_step concise_body_step element_step property_name_step case_clause_step else_step finalizer_step for_start_step handler_step maybe_expression_step statement_step class_step operand_step substitution_step substitutions_step function_step method_step bracketed_step elements_step next_element_step block_step declaration_step else_if_step if_clause_step (record { word = word; star = star; name = name; parameters = parameters; body = body }))
 
-pub at_Method : (y : Method) (text : List ℕ) (setting : Setting) (is_prototype : Bool) (is_derived : Bool) → breaches_of_method y text setting is_prototype is_derived ≡ together (breaches_of_property_name (out-Method y).name text setting ∷ constructor_breaches text is_prototype (shape_of_property_name (out-Method y).name).key (out-Method y).word (out-Method y).star ∷ breaches_of_bracketed (out-Method y).parameters text (of_method_parameters text is_prototype is_derived (shape_of_property_name (out-Method y).name).key) lr.ArrayPattern ∷ accessor_breaches text (out-Method y).word (shape_of_property_name (out-Method y).name).start (shape_of_bracketed (out-Method y).parameters).is_empty (shape_of_bracketed (out-Method y).parameters).is_one_value ∷ unlabelled (breaches_of_block (out-Method y).body text (of_named_method text is_prototype is_derived (shape_of_property_name (out-Method y).name).key)) ∷ strict_breaches (shape_of_bracketed (out-Method y).parameters).is_plain (use_strict_of_block (out-Method y).body text) ∷ [])
+pub at_Method : (y : Method) (text : List ℕ) (setting : Setting) (is_prototype : Bool) (is_derived : Bool) → breaches_of_method y text setting is_prototype is_derived ≡ together (breaches_of_property_name (out-Method y).name text setting ∷ constructor_breaches text is_prototype (shape_of_property_name (out-Method y).name).key (out-Method y).word (out-Method y).star ∷ repeated_breaches text (names_of_bracketed (out-Method y).parameters) ∷ breaches_of_bracketed (out-Method y).parameters text (of_method_parameters text is_prototype is_derived (shape_of_property_name (out-Method y).name).key) lr.ArrayPattern ∷ accessor_breaches text (out-Method y).word (shape_of_property_name (out-Method y).name).start (shape_of_bracketed (out-Method y).parameters).is_empty (shape_of_bracketed (out-Method y).parameters).is_one_value ∷ unlabelled (breaches_of_block (out-Method y).body text (of_named_method text is_prototype is_derived (shape_of_property_name (out-Method y).name).key)) ∷ strict_breaches (shape_of_bracketed (out-Method y).parameters).is_plain (use_strict_of_block (out-Method y).body text) ∷ [])
 at_Method y text setting is_prototype is_derived = ap (λ z. breaches_of_method z text setting is_prototype is_derived) (sym (roll-out-Method y)) ∙ made_Method (out-Method y).word (out-Method y).star (out-Method y).name (out-Method y).parameters (out-Method y).body text setting is_prototype is_derived
 
 shaped_Method : (word : Option Token) (star : Option Token) (name : PropertyName) (parameters : Bracketed) (body : Block) → shape_of_method (roll-Method (record { word = word; star = star; name = name; parameters = parameters; body = body })) ≡ (shape_of_property_name name).key
-unfolding facts_of_method breaches_of_method shape_of_method facts_of_property_name breaches_of_property_name shape_of_property_name facts_of_bracketed breaches_of_bracketed shape_of_bracketed facts_of_block breaches_of_block use_strict_of_block
+unfolding facts_of_method breaches_of_method shape_of_method facts_of_property_name breaches_of_property_name shape_of_property_name facts_of_bracketed breaches_of_bracketed shape_of_bracketed names_of_bracketed facts_of_block breaches_of_block use_strict_of_block
 shaped_Method word star name parameters body = ap (λ f. f.shape) (fold-roll-Method ClassElementFacts HeritageFacts ExpressionFacts LinkFacts TellingBy ElementFacts PropertyNameFacts Telling Telling Telling TellingAs Telling Telling StatementFacts ClassFacts Telling Telling SubstitutionsFacts FunctionFacts MethodFacts BracketedFacts ElementsFacts NextElementFacts BlockFacts Telling Telling Telling class_element_step heritage_step expression_step link_step concise_body_step element_step property_name_step case_clause_step else_step finalizer_step for_start_step handler_step maybe_expression_step statement_step class_step operand_step substitution_step substitutions_step function_step method_step bracketed_step elements_step next_element_step block_step declaration_step else_if_step if_clause_step (record { word = word; star = star; name = name; parameters = parameters; body = body }))
 
 pub shape_at_Method : (y : Method) → shape_of_method y ≡ (shape_of_property_name (out-Method y).name).key
@@ -797,6 +962,13 @@ shaped_Bracketed begin list ending = ap (λ f. f.shape) (fold-roll-Bracketed Cla
 pub shape_at_Bracketed : (y : Bracketed) → shape_of_bracketed y ≡ bracketed_shape (out-Bracketed y).begin (shape_of_elements (out-Bracketed y).list)
 shape_at_Bracketed y = ap shape_of_bracketed (sym (roll-out-Bracketed y)) ∙ shaped_Bracketed (out-Bracketed y).begin (out-Bracketed y).list (out-Bracketed y).ending
 
+named_Bracketed : (begin : Token) (list : Elements) (ending : Token) → names_of_bracketed (roll-Bracketed (record { begin = begin; list = list; ending = ending })) ≡ names_of_elements list
+unfolding facts_of_bracketed breaches_of_bracketed shape_of_bracketed names_of_bracketed facts_of_elements breaches_of_elements shape_of_elements names_of_elements
+named_Bracketed begin list ending = ap (λ f. f.names) (fold-roll-Bracketed ClassElementFacts HeritageFacts ExpressionFacts LinkFacts TellingBy ElementFacts PropertyNameFacts Telling Telling Telling TellingAs Telling Telling StatementFacts ClassFacts Telling Telling SubstitutionsFacts FunctionFacts MethodFacts BracketedFacts ElementsFacts NextElementFacts BlockFacts Telling Telling Telling class_element_step heritage_step expression_step link_step concise_body_step element_step property_name_step case_clause_step else_step finalizer_step for_start_step handler_step maybe_expression_step statement_step class_step operand_step substitution_step substitutions_step function_step method_step bracketed_step elements_step next_element_step block_step declaration_step else_if_step if_clause_step (record { begin = begin; list = list; ending = ending }))
+
+pub names_at_Bracketed : (y : Bracketed) → names_of_bracketed y ≡ names_of_elements (out-Bracketed y).list
+names_at_Bracketed y = ap names_of_bracketed (sym (roll-out-Bracketed y)) ∙ named_Bracketed (out-Bracketed y).begin (out-Bracketed y).list (out-Bracketed y).ending
+
 made_Elements : (first : Element) (rest : List NextElement) (text : List ℕ) (setting : Setting) (role : ListRole) (begin : ℕ) → breaches_of_elements (roll-Elements (record { first = first; rest = rest })) text setting role begin ≡ together (breaches_of_element first text setting (placed role begin (is_empty (map facts_of_next_element rest))) ∷ nexts_breaches text setting role begin (is_proto_in text (shape_of_element first).key) (map facts_of_next_element rest) ∷ [])
 unfolding facts_of_elements breaches_of_elements shape_of_elements facts_of_element breaches_of_element shape_of_element facts_of_next_element breaches_of_next_element shape_of_next_element
 made_Elements first rest text setting role begin = ap (λ f. f.breaches text setting role begin) (fold-roll-Elements ClassElementFacts HeritageFacts ExpressionFacts LinkFacts TellingBy ElementFacts PropertyNameFacts Telling Telling Telling TellingAs Telling Telling StatementFacts ClassFacts Telling Telling SubstitutionsFacts FunctionFacts MethodFacts BracketedFacts ElementsFacts NextElementFacts BlockFacts Telling Telling Telling class_element_step heritage_step expression_step link_step concise_body_step element_step property_name_step case_clause_step else_step finalizer_step for_start_step handler_step maybe_expression_step statement_step class_step operand_step substitution_step substitutions_step function_step method_step bracketed_step elements_step next_element_step block_step declaration_step else_if_step if_clause_step (record { first = first; rest = rest }))
@@ -811,6 +983,13 @@ shaped_Elements first rest = ap (λ f. f.shape) (fold-roll-Elements ClassElement
 pub shape_at_Elements : (y : Elements) → shape_of_elements y ≡ elements_shape (shape_of_element (out-Elements y).first) (are_plain (map facts_of_next_element (out-Elements y).rest)) (is_empty (map facts_of_next_element (out-Elements y).rest))
 shape_at_Elements y = ap shape_of_elements (sym (roll-out-Elements y)) ∙ shaped_Elements (out-Elements y).first (out-Elements y).rest
 
+named_Elements : (first : Element) (rest : List NextElement) → names_of_elements (roll-Elements (record { first = first; rest = rest })) ≡ names_of_element first ++ joined (map (λ f. f.names) (map facts_of_next_element rest))
+unfolding facts_of_elements breaches_of_elements shape_of_elements names_of_elements facts_of_element breaches_of_element shape_of_element names_of_element facts_of_next_element breaches_of_next_element shape_of_next_element names_of_next_element
+named_Elements first rest = ap (λ f. f.names) (fold-roll-Elements ClassElementFacts HeritageFacts ExpressionFacts LinkFacts TellingBy ElementFacts PropertyNameFacts Telling Telling Telling TellingAs Telling Telling StatementFacts ClassFacts Telling Telling SubstitutionsFacts FunctionFacts MethodFacts BracketedFacts ElementsFacts NextElementFacts BlockFacts Telling Telling Telling class_element_step heritage_step expression_step link_step concise_body_step element_step property_name_step case_clause_step else_step finalizer_step for_start_step handler_step maybe_expression_step statement_step class_step operand_step substitution_step substitutions_step function_step method_step bracketed_step elements_step next_element_step block_step declaration_step else_if_step if_clause_step (record { first = first; rest = rest }))
+
+pub names_at_Elements : (y : Elements) → names_of_elements y ≡ names_of_element (out-Elements y).first ++ joined (map (λ f. f.names) (map facts_of_next_element (out-Elements y).rest))
+names_at_Elements y = ap names_of_elements (sym (roll-out-Elements y)) ∙ named_Elements (out-Elements y).first (out-Elements y).rest
+
 made_NextElement : (comma : Token) (element : Element) (text : List ℕ) (setting : Setting) (place : Place) → breaches_of_next_element (roll-NextElement (record { comma = comma; element = element })) text setting place ≡ breaches_of_element element text setting place
 unfolding facts_of_next_element breaches_of_next_element shape_of_next_element facts_of_element breaches_of_element shape_of_element
 made_NextElement comma element text setting place = ap (λ f. f.breaches text setting place) (fold-roll-NextElement ClassElementFacts HeritageFacts ExpressionFacts LinkFacts TellingBy ElementFacts PropertyNameFacts Telling Telling Telling TellingAs Telling Telling StatementFacts ClassFacts Telling Telling SubstitutionsFacts FunctionFacts MethodFacts BracketedFacts ElementsFacts NextElementFacts BlockFacts Telling Telling Telling class_element_step heritage_step expression_step link_step concise_body_step element_step property_name_step case_clause_step else_step finalizer_step for_start_step handler_step maybe_expression_step statement_step class_step operand_step substitution_step substitutions_step function_step method_step bracketed_step elements_step next_element_step block_step declaration_step else_if_step if_clause_step (record { comma = comma; element = element }))
@@ -824,6 +1003,13 @@ shaped_NextElement comma element = ap (λ f. f.shape) (fold-roll-NextElement Cla
 
 pub shape_at_NextElement : (y : NextElement) → shape_of_next_element y ≡ (shape_of_element (out-NextElement y).element)
 shape_at_NextElement y = ap shape_of_next_element (sym (roll-out-NextElement y)) ∙ shaped_NextElement (out-NextElement y).comma (out-NextElement y).element
+
+named_NextElement : (comma : Token) (element : Element) → names_of_next_element (roll-NextElement (record { comma = comma; element = element })) ≡ names_of_element element
+unfolding facts_of_next_element breaches_of_next_element shape_of_next_element names_of_next_element facts_of_element breaches_of_element shape_of_element names_of_element
+named_NextElement comma element = ap (λ f. f.names) (fold-roll-NextElement ClassElementFacts HeritageFacts ExpressionFacts LinkFacts TellingBy ElementFacts PropertyNameFacts Telling Telling Telling TellingAs Telling Telling StatementFacts ClassFacts Telling Telling SubstitutionsFacts FunctionFacts MethodFacts BracketedFacts ElementsFacts NextElementFacts BlockFacts Telling Telling Telling class_element_step heritage_step expression_step link_step concise_body_step element_step property_name_step case_clause_step else_step finalizer_step for_start_step handler_step maybe_expression_step statement_step class_step operand_step substitution_step substitutions_step function_step method_step bracketed_step elements_step next_element_step block_step declaration_step else_if_step if_clause_step (record { comma = comma; element = element }))
+
+pub names_at_NextElement : (y : NextElement) → names_of_next_element y ≡ names_of_element (out-NextElement y).element
+names_at_NextElement y = ap names_of_next_element (sym (roll-out-NextElement y)) ∙ named_NextElement (out-NextElement y).comma (out-NextElement y).element
 
 made_Block : (begin : Token) (body : List Statement) (ending : Token) (text : List ℕ) (setting : Setting) → breaches_of_block (roll-Block (record { begin = begin; body = body; ending = ending })) text setting ≡ each text setting (map (λ f. f.breaches) (map facts_of_statement body))
 unfolding facts_of_block breaches_of_block use_strict_of_block facts_of_statement breaches_of_statement is_loop_of_statement directive_of_statement
@@ -883,6 +1069,14 @@ each_next x xs text setting role begin has_proto = refl
 pub told_link : (x : Link) → shape_of_link x ≡ (facts_of_link x).shape
 unfolding shape_of_link
 told_link x = refl
+
+pub each_names_of_link : (x : Link) (xs : List Link) → joined (map (λ f. f.names) (map facts_of_link (x ∷ xs))) ≡ names_of_link x ++ joined (map (λ f. f.names) (map facts_of_link xs))
+unfolding names_of_link
+each_names_of_link x xs = refl
+
+pub each_names_of_next_element : (x : NextElement) (xs : List NextElement) → joined (map (λ f. f.names) (map facts_of_next_element (x ∷ xs))) ≡ names_of_next_element x ++ joined (map (λ f. f.names) (map facts_of_next_element xs))
+unfolding names_of_next_element
+each_names_of_next_element x xs = refl
 
 pub told_next : (x : NextElement) → shape_of_next_element x ≡ (facts_of_next_element x).shape
 unfolding shape_of_next_element

@@ -2,7 +2,7 @@
 
 ghost use Rattle.std.specs.Prelude.{◌≡◌, [], false, IfOk, None};
 ghost use Rattle.esb_early.specs.Findings as spec;
-ghost use Rattle.esb_early.specs.Findings.{Finds, Enters, Leaves, PutsBack, SetsAside, breach_if};
+ghost use Rattle.esb_early.specs.Findings.{Finding, Finds, Enters, Leaves, PutsBack, SetsAside, breach_if};
 
 use crate::breach::{Breach, Rule};
 use crate::label::Label;
@@ -61,6 +61,13 @@ pub fn report_if(broken: bool, at: usize, rule: Rule, out: &mut Found)
     if broken {
         out.first = earlier(out.first, Breach { at, rule });
     }
+}
+
+/// Notes that memory was refused, so that what is found is not known.
+pub fn refuse(out: &mut Found)
+    ensures { (finding : Finding) → Finds finding out.old out.new }
+{
+    out.refused = true;
 }
 
 /// Begins the statement behind a label.

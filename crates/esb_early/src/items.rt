@@ -98,7 +98,7 @@ fn walk_items(text: &[u8], items: &[ModuleItem], out: &mut Found)
 
 /// The first breach of an early rule in the tree of a module whose text these contents are: the one at the earliest place, and of
 /// those at one place the one of the rule with the lowest number. `None` says that no rule is broken. The rules are those that the
-/// tree decides alone (2 to 4, 7, 8 and 10 to 18), without rule 9: two parameters of one name are not looked for.
+/// tree decides alone: all but 1, 5 and 6.
 pub fn first_breach(alloc: Global, contents: &Text, tree: &Tree) -> Result<Option<Breach>, Memory>
     ensures { IfOk result (λ first. first ≡ first_of None (spec.breaches contents.now tree.now)) }
 {

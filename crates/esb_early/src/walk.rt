@@ -40,6 +40,8 @@ use crate::label::Label;
 use crate::labels::check_break;
 use crate::labels::check_continue;
 use crate::labels::check_label;
+use crate::repeated::check_names_of_head;
+use crate::repeated::check_names_of_parameters;
 use crate::roles::ListRole;
 use crate::roles::Place;
 use crate::roles::Role;
@@ -279,6 +281,7 @@ pub fn walk_expression(
             other_shape(target.start)
         }
         Expression::Arrow(head, _, body) => {
+            check_names_of_head(text, head.get(), out);
             let head = walk_expression(
                 text,
                 head.get(),
@@ -623,6 +626,7 @@ pub fn walk_function(text: &[u8], x: &Function, setting: Setting, out: &mut Foun
     ensures breaches { Finds (spec.breaches_of_function x.now text.now setting) out.old out.new }
 {
     check_declared(text, x.name, out);
+    check_names_of_parameters(text, &x.parameters, out);
     let parameters = walk_bracketed(
         text,
         &x.parameters,
@@ -649,6 +653,7 @@ pub fn walk_method(
 {
     let name = walk_property_name(text, &x.name, setting, out);
     check_constructor(text, is_prototype, name.key, x.word, x.star, out);
+    check_names_of_parameters(text, &x.parameters, out);
     let parameters = walk_bracketed(
         text,
         &x.parameters,

@@ -1,20 +1,31 @@
 use Rattle.std.proofs.Common.{◌≡◌, ◌+◌, ◌-◌, ◌&&◌, ◌||◌, ◌==◌, [], fold, length, drop, map, true, false, ap, refl, sym, ◌∙◌}
 use Rattle.std.proofs.lemmas.List.{drop_all}
+use Rattle.esb_tree.specs.declared.classes.Class.{out-Class}
+use Rattle.esb_tree.specs.declared.expressions.Operand.{out-Operand}
+use Rattle.esb_tree.specs.declared.expressions.Substitution.{out-Substitution}
+use Rattle.esb_tree.specs.declared.expressions.Substitutions.{out-Substitutions}
 use Rattle.esb_tree.specs.declared.functions.Function.{out-Function}
 use Rattle.esb_tree.specs.declared.functions.Method.{out-Method}
 use Rattle.esb_tree.specs.declared.patterns.Bracketed.{out-Bracketed}
 use Rattle.esb_tree.specs.declared.patterns.Elements.{out-Elements}
+use Rattle.esb_tree.specs.declared.patterns.NextElement.{out-NextElement}
+use Rattle.esb_tree.specs.declared.statements.Block.{out-Block}
+use Rattle.esb_tree.specs.declared.statements.Declaration.{out-Declaration}
+use Rattle.esb_tree.specs.declared.statements.ElseIf.{out-ElseIf}
+use Rattle.esb_tree.specs.declared.statements.IfClause.{out-IfClause}
 use Rattle.esb_grammar.specs.Forms.{is_empty}
 use Rattle.esb_early.specs.declared.roles.ListRole.TheVariants as lr
 use Rattle.esb_early.specs.declared.roles.Role.TheVariants as r
 use Rattle.esb_early.specs.Findings.{each, behind, unlabelled}
-use Rattle.esb_early.specs.Roles.{placed}
+use Rattle.esb_early.specs.Parameters.{repeated_breaches}
+use Rattle.esb_early.specs.Roles.{array_role, object_role, parenthesized_role, assigned_role, element_role, spread_role, placed, is_prototype_method}
 use Rattle.esb_early.specs.Rules as spec
-use Rattle.esb_early.specs.Settings.{of_method_parameters, of_named_method}
-use Rattle.esb_early.specs.Shapes.{other_shape, parenthesized_shape, member_shape, call_link, links_shape, value_shape, bracketed_shape, elements_shape, property_element, key_of_prototype, after_link}
-use Rattle.esb_early.specs.Tests.{second_constructor, second_proto, strict_breaches, accessor_breaches, assignment_breaches, constructor_breaches, delete_breaches, literal_breaches, member_breaches, parenthesized_breaches, super_breaches, value_breaches}
+use Rattle.esb_early.specs.Settings.{of_loop, of_switch, of_body, of_parameters, of_function, of_function_parameters, of_method_parameters, of_named_method}
+use Rattle.esb_early.specs.Shapes.{other_shape, primary_shape, parenthesized_shape, member_shape, access_link, call_link, template_link, optional_link, links_shape, hole_shape, value_shape, other_element, named_shape, computed_shape, start_of_function, bracketed_shape, elements_shape, property_element, key_of_prototype, after_link}
+use Rattle.esb_early.specs.Tests.{second_constructor, second_proto, strict_breaches, accessor_breaches, assignment_breaches, bound_breaches, constructor_breaches, declared_breaches, delete_breaches, initialized_breaches, literal_breaches, member_breaches, meta_breaches, method_property_breaches, operator_breaches, parenthesized_breaches, primary_breaches, reference_breaches, return_breaches, shorthand_breaches, spread_breaches, super_breaches, value_breaches}
 use Rattle.esb_early.specs.Keys.{is_constructor, is_proto_in}
-use Rattle.esb_early.proofs.Steps.{alike, alike_three, mapped_empty, drop_next, finds_none, finds_nothing, finds_both, finds_then, finds_is, finds_of, finds_of_two, finds_of_three, finds_behind, finds_unlabelled, finds_next, finds_end, one_less, no_length, plain_next, plain_end}
+use Rattle.esb_early.specs.Labels.{break_breaches, continue_breaches, label_breaches}
+use Rattle.esb_early.proofs.Steps.{alike, alike_three, mapped_empty, drop_next, finds_none, finds_nothing, finds_both, finds_then, finds_is, finds_of, finds_of_two, finds_of_three, finds_behind, finds_unlabelled, finds_next, finds_next_place, finds_end, one_less, no_length, plain_next, plain_end}
 use Rattle.esb_early.proofs.RuleLines.{is_ClassMethod, is_EmptyElement, is_NoHeritage, is_Extends, is_Primary, is_MetaProperty, is_ArrayLiteral, is_ObjectLiteral, is_Parenthesized, is_TemplateLiteral, is_FunctionExpression, is_ClassExpression, is_Member, is_New, is_NewPlain, is_ImportCall, is_PrefixUpdate, is_PostfixUpdate, is_Unary, is_Await, is_Binary, is_Conditional, is_Assignment, is_Arrow, is_AsyncArrow, is_Yield, is_YieldValue, is_YieldEach, is_Dot, is_Index, is_Call, is_Tagged, is_TaggedTemplate, is_OptionalDot, is_OptionalIndex, is_OptionalCall, is_ConciseValue, is_ConciseBlock, is_Hole, is_Value, is_Spread, is_Shorthand, is_Initialized, is_Property, is_MethodProperty, is_Named, is_Computed, is_Case, is_Default, is_NoElse, is_Otherwise, is_NoFinalizer, is_Finally, is_NoStart, is_StartExpression, is_StartDeclaration, is_NoHandler, is_Catch, is_CatchParameter, is_Absent, is_Present, is_BlockStatement, is_Variables, is_Empty, is_ExpressionStatement, is_If, is_DoWhile, is_While, is_For, is_ForEach, is_Continue, is_Break, is_Return, is_Switch, is_Labelled, is_Throw, is_Try, is_Debugger, is_FunctionDeclaration, is_ClassDeclaration, at_Class, at_Operand, at_Substitution, at_Substitutions, at_Function, at_Method, at_Bracketed, at_NextElement, at_Block, at_Declaration, at_ElseIf, at_IfClause, at_Elements, shape_at_Elements, shape_ClassMethod, shape_EmptyElement, shape_NoHeritage, shape_Extends, shape_Primary, shape_MetaProperty, shape_ArrayLiteral, shape_ObjectLiteral, shape_Parenthesized, shape_TemplateLiteral, shape_FunctionExpression, shape_ClassExpression, shape_Member, shape_New, shape_NewPlain, shape_ImportCall, shape_PrefixUpdate, shape_PostfixUpdate, shape_Unary, shape_Await, shape_Binary, shape_Conditional, shape_Assignment, shape_Arrow, shape_AsyncArrow, shape_Yield, shape_YieldValue, shape_YieldEach, shape_Dot, shape_Index, shape_Call, shape_Tagged, shape_TaggedTemplate, shape_OptionalDot, shape_OptionalIndex, shape_OptionalCall, shape_Hole, shape_Value, shape_Spread, shape_Shorthand, shape_Initialized, shape_Property, shape_MethodProperty, shape_Named, shape_Computed, shape_at_Class, shape_at_Substitutions, shape_at_Function, shape_at_Method, shape_at_Bracketed, shape_at_NextElement, each_statement, each_link, each_next, each_class_element, told_link, told_next}
 use Rattle.esb_early.proofs.walk.+walk.Goals as goal
 
@@ -88,7 +99,7 @@ pub walk_expression-returns-in-Assignment : goal.walk_expression-returns-in-Assi
 walk_expression-returns-in-Assignment t c = record { shape = c.other_shape-in-Assignment.ensures ∙ ap (λ s0. other_shape s0.start) (c.walk_expression-target.ensures.shape ∙ ap spec.shape_of_expression c.get-in-Assignment.ensures) ∙ sym (shape_Assignment _ _ _ _ c.in-Assignment.is); breaches = finds_is _ _ _ _ (is_Assignment _ _ _ _ _ _ _ c.in-Assignment.is) (finds_then _ _ _ _ _ (finds_of_two (λ y z1. spec.breaches_of_expression y c.args.text.now c.args.setting z1) _ _ _ _ _ _ c.get-in-Assignment.ensures c.assigned_role.ensures c.walk_expression-target.ensures.breaches) (finds_then _ _ _ _ _ (finds_of (λ y. spec.breaches_of_expression y c.args.text.now c.args.setting r.Value) _ _ _ _ c.get-in-Assignment-2.ensures c.walk_expression-in-Assignment.ensures.breaches) (finds_then _ _ _ _ _ (finds_of (λ s0. assignment_breaches c.args.role c.in-Assignment.operator s0.start) _ _ _ _ (c.walk_expression-target.ensures.shape ∙ ap spec.shape_of_expression c.get-in-Assignment.ensures) c.check_assignment.ensures) (finds_none _)))) }
 
 pub walk_expression-returns-in-Arrow : goal.walk_expression-returns-in-Arrow
-walk_expression-returns-in-Arrow t c = record { shape = c.other_shape-in-Arrow.ensures ∙ ap (λ s0. other_shape s0.start) (c.walk_expression-head.ensures.shape ∙ ap spec.shape_of_expression c.get-in-Arrow.ensures) ∙ sym (shape_Arrow _ _ _ _ c.in-Arrow.is); breaches = finds_is _ _ _ _ (is_Arrow _ _ _ _ _ _ _ c.in-Arrow.is) (finds_then _ _ _ _ _ (finds_of_two (λ y z0. spec.breaches_of_expression y c.args.text.now z0 r.Parameters) _ _ _ _ _ _ c.get-in-Arrow.ensures c.of_parameters.ensures c.walk_expression-head.ensures.breaches) (finds_then _ _ _ _ _ (finds_of_three (λ y z0 z1. spec.breaches_of_concise_body y c.args.text.now z0 z1) _ _ _ _ _ _ _ _ c.get-in-Arrow-2.ensures c.of_body.ensures (ap (λ s. s.is_plain) (c.walk_expression-head.ensures.shape ∙ ap spec.shape_of_expression c.get-in-Arrow.ensures)) c.walk_concise_body.ensures) (finds_then _ _ _ _ _ (finds_of (λ s0. value_breaches c.args.role s0.start) _ _ _ _ (c.walk_expression-head.ensures.shape ∙ ap spec.shape_of_expression c.get-in-Arrow.ensures) c.check_value-in-Arrow.ensures) (finds_none _)))) }
+walk_expression-returns-in-Arrow t c = record { shape = c.other_shape-in-Arrow.ensures ∙ ap (λ s0. other_shape s0.start) (c.walk_expression-head.ensures.shape ∙ ap spec.shape_of_expression c.get-in-Arrow-2.ensures) ∙ sym (shape_Arrow _ _ _ _ c.in-Arrow.is); breaches = finds_is _ _ _ _ (is_Arrow _ _ _ _ _ _ _ c.in-Arrow.is) (finds_then _ _ _ _ _ (finds_of (λ y. repeated_breaches c.args.text.now (spec.names_of_expression y)) _ _ _ _ c.get-in-Arrow.ensures c.check_names_of_head.ensures) (finds_then _ _ _ _ _ (finds_of_two (λ y z0. spec.breaches_of_expression y c.args.text.now z0 r.Parameters) _ _ _ _ _ _ c.get-in-Arrow-2.ensures c.of_parameters.ensures c.walk_expression-head.ensures.breaches) (finds_then _ _ _ _ _ (finds_of_three (λ y z0 z1. spec.breaches_of_concise_body y c.args.text.now z0 z1) _ _ _ _ _ _ _ _ c.get-in-Arrow-3.ensures c.of_body.ensures (ap (λ s. s.is_plain) (c.walk_expression-head.ensures.shape ∙ ap spec.shape_of_expression c.get-in-Arrow-2.ensures)) c.walk_concise_body.ensures) (finds_then _ _ _ _ _ (finds_of (λ s0. value_breaches c.args.role s0.start) _ _ _ _ (c.walk_expression-head.ensures.shape ∙ ap spec.shape_of_expression c.get-in-Arrow-2.ensures) c.check_value-in-Arrow.ensures) (finds_none _))))) }
 
 pub walk_expression-returns-in-AsyncArrow : goal.walk_expression-returns-in-AsyncArrow
 walk_expression-returns-in-AsyncArrow t c = record { shape = c.other_shape-in-AsyncArrow.ensures ∙ sym (shape_AsyncArrow _ _ _ _ _ c.in-AsyncArrow.is); breaches = finds_is _ _ _ _ (is_AsyncArrow _ _ _ _ _ _ _ _ c.in-AsyncArrow.is) (finds_then _ _ _ _ _ c.check_bound.ensures (finds_then _ _ _ _ _ (finds_of_two (λ y z0. spec.breaches_of_concise_body y c.args.text.now z0 true) _ _ _ _ _ _ c.get-in-AsyncArrow.ensures c.of_body-in-AsyncArrow.ensures c.walk_concise_body-in-AsyncArrow.ensures) (finds_then _ _ _ _ _ c.check_value-in-AsyncArrow.ensures (finds_none _)))) }
@@ -271,10 +282,10 @@ pub walk_substitutions-returns : goal.walk_substitutions-returns
 walk_substitutions-returns t c = record { shape = sym (shape_at_Substitutions _); breaches = finds_is _ _ _ _ (at_Substitutions _ _ _) (finds_then _ _ _ _ _ c.walk_expression.ensures.breaches (finds_then _ _ _ _ _ (finds_of (λ y. each c.args.text.now c.args.setting (map spec.breaches_of_substitution y)) _ _ _ _ c.as_slice.ensures c.walk_each_substitution.ensures) (finds_none _))) }
 
 pub walk_function-returns : goal.walk_function-returns
-walk_function-returns t c = record { shape = c.start_of_function.ensures ∙ sym (shape_at_Function _); breaches = finds_is _ _ _ _ (at_Function _ _ _) (finds_then _ _ _ _ _ c.check_declared.ensures (finds_then _ _ _ _ _ (finds_of (λ z0. spec.breaches_of_bracketed (out-Function c.args.x.now).parameters c.args.text.now z0 lr.ArrayPattern) _ _ _ _ c.of_function_parameters.ensures c.walk_bracketed-parameters.ensures.breaches) (finds_then _ _ _ _ _ (finds_of (λ z. unlabelled (spec.breaches_of_block (out-Function c.args.x.now).body c.args.text.now z)) _ _ _ _ c.of_function.ensures c.walk_body.ensures) (finds_then _ _ _ _ _ (finds_of (λ s0. strict_breaches s0.is_plain (spec.use_strict_of_block (out-Function c.args.x.now).body c.args.text.now)) _ _ _ _ c.walk_bracketed-parameters.ensures.shape c.check_strict.ensures) (finds_none _))))) }
+walk_function-returns t c = record { shape = c.start_of_function.ensures ∙ sym (shape_at_Function _); breaches = finds_is _ _ _ _ (at_Function _ _ _) (finds_then _ _ _ _ _ c.check_declared.ensures (finds_then _ _ _ _ _ c.check_names_of_parameters.ensures (finds_then _ _ _ _ _ (finds_of (λ z0. spec.breaches_of_bracketed (out-Function c.args.x.now).parameters c.args.text.now z0 lr.ArrayPattern) _ _ _ _ c.of_function_parameters.ensures c.walk_bracketed-parameters.ensures.breaches) (finds_then _ _ _ _ _ (finds_of (λ z. unlabelled (spec.breaches_of_block (out-Function c.args.x.now).body c.args.text.now z)) _ _ _ _ c.of_function.ensures c.walk_body.ensures) (finds_then _ _ _ _ _ (finds_of (λ s0. strict_breaches s0.is_plain (spec.use_strict_of_block (out-Function c.args.x.now).body c.args.text.now)) _ _ _ _ c.walk_bracketed-parameters.ensures.shape c.check_strict.ensures) (finds_none _)))))) }
 
 pub walk_method-returns : goal.walk_method-returns
-walk_method-returns t c = record { shape = ap (λ s. s.key) (c.walk_property_name-name.ensures.shape) ∙ sym (shape_at_Method _); breaches = finds_is _ _ _ _ (at_Method _ _ _ _ _) (finds_then _ _ _ _ _ c.walk_property_name-name.ensures.breaches (finds_then _ _ _ _ _ (finds_of (λ s0. constructor_breaches c.args.text.now c.args.is_prototype s0.key (out-Method c.args.x.now).word (out-Method c.args.x.now).star) _ _ _ _ c.walk_property_name-name.ensures.shape c.check_constructor.ensures) (finds_then _ _ _ _ _ (finds_of (λ z0. spec.breaches_of_bracketed (out-Method c.args.x.now).parameters c.args.text.now z0 lr.ArrayPattern) _ _ _ _ (c.of_method_parameters.ensures ∙ ap (λ s. (of_method_parameters c.args.text.now c.args.is_prototype c.args.is_derived s.key)) c.walk_property_name-name.ensures.shape) c.walk_bracketed-parameters.ensures.breaches) (finds_then _ _ _ _ _ (finds_of_two (λ s0 s1. accessor_breaches c.args.text.now (out-Method c.args.x.now).word s0.start s1.is_empty s1.is_one_value) _ _ _ _ _ _ c.walk_property_name-name.ensures.shape c.walk_bracketed-parameters.ensures.shape c.check_accessor.ensures) (finds_then _ _ _ _ _ (finds_of (λ z. unlabelled (spec.breaches_of_block (out-Method c.args.x.now).body c.args.text.now z)) _ _ _ _ (c.of_named_method.ensures ∙ ap (λ s. (of_named_method c.args.text.now c.args.is_prototype c.args.is_derived s.key)) c.walk_property_name-name.ensures.shape) c.walk_body.ensures) (finds_then _ _ _ _ _ (finds_of (λ s0. strict_breaches s0.is_plain (spec.use_strict_of_block (out-Method c.args.x.now).body c.args.text.now)) _ _ _ _ c.walk_bracketed-parameters.ensures.shape c.check_strict.ensures) (finds_none _))))))) }
+walk_method-returns t c = record { shape = ap (λ s. s.key) (c.walk_property_name-name.ensures.shape) ∙ sym (shape_at_Method _); breaches = finds_is _ _ _ _ (at_Method _ _ _ _ _) (finds_then _ _ _ _ _ c.walk_property_name-name.ensures.breaches (finds_then _ _ _ _ _ (finds_of (λ s0. constructor_breaches c.args.text.now c.args.is_prototype s0.key (out-Method c.args.x.now).word (out-Method c.args.x.now).star) _ _ _ _ c.walk_property_name-name.ensures.shape c.check_constructor.ensures) (finds_then _ _ _ _ _ c.check_names_of_parameters.ensures (finds_then _ _ _ _ _ (finds_of (λ z0. spec.breaches_of_bracketed (out-Method c.args.x.now).parameters c.args.text.now z0 lr.ArrayPattern) _ _ _ _ (c.of_method_parameters.ensures ∙ ap (λ s. (of_method_parameters c.args.text.now c.args.is_prototype c.args.is_derived s.key)) c.walk_property_name-name.ensures.shape) c.walk_bracketed-parameters.ensures.breaches) (finds_then _ _ _ _ _ (finds_of_two (λ s0 s1. accessor_breaches c.args.text.now (out-Method c.args.x.now).word s0.start s1.is_empty s1.is_one_value) _ _ _ _ _ _ c.walk_property_name-name.ensures.shape c.walk_bracketed-parameters.ensures.shape c.check_accessor.ensures) (finds_then _ _ _ _ _ (finds_of (λ z. unlabelled (spec.breaches_of_block (out-Method c.args.x.now).body c.args.text.now z)) _ _ _ _ (c.of_named_method.ensures ∙ ap (λ s. (of_named_method c.args.text.now c.args.is_prototype c.args.is_derived s.key)) c.walk_property_name-name.ensures.shape) c.walk_body.ensures) (finds_then _ _ _ _ _ (finds_of (λ s0. strict_breaches s0.is_plain (spec.use_strict_of_block (out-Method c.args.x.now).body c.args.text.now)) _ _ _ _ c.walk_bracketed-parameters.ensures.shape c.check_strict.ensures) (finds_none _)))))))) }
 
 pub walk_bracketed-returns : goal.walk_bracketed-returns
 walk_bracketed-returns t c = record { shape = c.bracketed_shape.ensures ∙ ap (λ s0. bracketed_shape (out-Bracketed c.args.x.now).begin s0) c.walk_elements-list.ensures.shape ∙ sym (shape_at_Bracketed _); breaches = finds_is _ _ _ _ (at_Bracketed _ _ _ _) c.walk_elements-list.ensures.breaches }
