@@ -11,7 +11,8 @@ ghost use Rattle.esb_assignment_laws.specs.Values as values;
 use crate::choices::Branch;
 use esb_base::{List, Memory, Text};
 use esb_grammar::Context;
-use esb_inner::{Parser, Readers, boxed};
+use esb_inner::{Parser, Readers};
+use esb_nodes::{Discard, Nested, with};
 use esb_reader::{Fault, Node, Reading, peek, take};
 use esb_token::Goal;
 use esb_tree::{Expression, Statement, is_assignment};
@@ -64,8 +65,8 @@ fn assignment_of(alloc: Global, target: Expression, part: Branch) -> Result<Expr
     ensures { IfOk result (λ x. x ≡ spec.make_assignment target part) }
 {
     let (operator, value) = part;
-    let target = boxed(alloc, target)?;
-    let value = boxed(alloc, value)?;
+    let (value, target) = with(value, target.boxed(alloc))?;
+    let (target, value) = with(target, value.boxed(alloc))?;
     Ok(Expression::Assignment(target, operator, value))
 }
 
@@ -80,6 +81,7 @@ fn assignment_node(
 {
     let deepest = target.levels.max(part.levels);
     if deepest >= levels {
+        (target, part).discard();
         return Err(Fault::NoTree(at));
     }
     let tree = assignment_of(alloc, target.tree, part.tree)?;
@@ -113,6 +115,6 @@ pub fn assignment_behind<
     if !is_assignment(peek(parser.text, Goal::Div, at).kind) || !is_left(&target.tree) {
         return Ok((target, at));
     }
-    let (part, at) = assigned_value(parser, context, levels, at)?;
+    let (target, (part, at)) = with(target, assigned_value(parser, context, levels, at))?;
     assignment_node(parser.alloc, levels, target, part, at)
 }

@@ -15,7 +15,8 @@ use crate::kinds::is_operator;
 use crate::operators::Operators;
 use esb_base::{List, Text};
 use esb_grammar::Context;
-use esb_inner::{Readers, boxed};
+use esb_inner::Readers;
+use esb_nodes::{Discard, Listed, Nested, with};
 use esb_reader::{Fault, Node, Reading, peek, take};
 use esb_token::Goal;
 use esb_tree::{Expression, Operand};
@@ -32,16 +33,18 @@ fn chained(
     ensures { Gives result (over levels e.Binary first rest at) }
 {
     if rest.tree.is_empty() {
+        rest.discard();
         return Ok((first, at));
     }
     let deepest = first.levels.max(rest.levels);
     if deepest >= levels {
+        (first, rest).discard();
         return Err(Fault::NoTree(at));
     }
-    let tree = Expression::Binary(boxed(alloc, first.tree)?, rest.tree);
+    let (rest, first) = with(rest.tree, first.tree.boxed(alloc))?;
     Ok((
         Node {
-            tree,
+            tree: Expression::Binary(first, rest),
             levels: deepest + 1,
         },
         at,
@@ -61,6 +64,7 @@ fn joined(
 {
     let (x, at) = chained(alloc, levels, first, rest, at)?;
     if !fits_level(own, &x.tree) {
+        x.discard();
         return Err(Fault::NoTree(at));
     }
     Ok((x, at))
@@ -136,8 +140,8 @@ impl<
                     at,
                 ));
             }
-            let (operand, end) = self.operand(context, levels, tight, at)?;
-            tree.push(operand.tree)?;
+            let (list, (operand, end)) = with(tree, self.operand(context, levels, tight, at))?;
+            tree = operand.tree.added_to(list)?;
             deepest = deepest.max(operand.levels);
             at = end;
         }
@@ -165,7 +169,7 @@ impl<
         requires small { tight < 255 }
         ensures { Gives result (spec.step self.now.text.now levels context (suc tight) (pure first) (spec.binary self.now.text.now levels context (unary.unary self.now.text.now context (R.left context self.now.text.now) levels) tight) at) }
     {
-        let (rest, at) = self.items(context, levels, tight, at)?;
+        let (first, (rest, at)) = with(first, self.items(context, levels, tight, at))?;
         joined(self.alloc, levels, tight + 1, first, rest, at)
     }
 

@@ -11,7 +11,8 @@ ghost use Rattle.esb_assignment_laws.specs.Values as values;
 
 use esb_base::{List, Memory, Text};
 use esb_grammar::Context;
-use esb_inner::{Parser, Readers, boxed};
+use esb_inner::{Parser, Readers};
+use esb_nodes::{Discard, Nested, with};
 use esb_reader::{Fault, Node, Reading, expect, peek};
 use esb_token::{Goal, Kind, Token};
 use esb_tree::{Expression, Statement};
@@ -76,7 +77,7 @@ fn branches<
     ensures { Gives result (both (both (token parser.now.text.now k.Question) (below (R.expression false (contexts.inside context)) parser.now.text.now levels)) (both (token parser.now.text.now k.Colon) (below (R.expression false context) parser.now.text.now levels)) at) }
 {
     let (first, at) = branch(parser, Kind::Question, inside(context), levels, at)?;
-    let (second, at) = branch(parser, Kind::Colon, context, levels, at)?;
+    let (first, (second, at)) = with(first, branch(parser, Kind::Colon, context, levels, at))?;
     let levels = first.levels.max(second.levels);
     let tree = (first.tree, second.tree);
     Ok((Node { tree, levels }, at))
@@ -87,9 +88,9 @@ fn choice_of(alloc: Global, test: Expression, parts: (Branch, Branch)) -> Result
     ensures { IfOk result (λ x. x ≡ spec.make_choice test parts) }
 {
     let ((question, value), (colon, other)) = parts;
-    let test = boxed(alloc, test)?;
-    let value = boxed(alloc, value)?;
-    let other = boxed(alloc, other)?;
+    let ((value, other), test) = with((value, other), test.boxed(alloc))?;
+    let ((test, other), value) = with((test, other), value.boxed(alloc))?;
+    let ((test, value), other) = with((test, value), other.boxed(alloc))?;
     Ok(Expression::Conditional(test, question, value, colon, other))
 }
 
@@ -104,6 +105,7 @@ fn choice_node(
 {
     let deepest = test.levels.max(parts.levels);
     if deepest >= levels {
+        (test, parts).discard();
         return Err(Fault::NoTree(at));
     }
     let tree = choice_of(alloc, test.tree, parts.tree)?;
@@ -136,6 +138,6 @@ pub fn choice_behind<
     if !is_question(peek(parser.text, Goal::Div, at).kind) {
         return Ok((test, at));
     }
-    let (parts, at) = branches(parser, context, levels, at)?;
+    let (test, (parts, at)) = with(test, branches(parser, context, levels, at))?;
     choice_node(parser.alloc, levels, test, parts, at)
 }

@@ -1,23 +1,24 @@
 //! Operators before and behind operands (ECMA-262, 12.4 and 12.5, and `await` of 14.7).
 
-ghost use Rattle.std.specs.Prelude.{◌≡◌, ◌≤◌, ◌+◌, nat_lt};
+ghost use Rattle.std.specs.Prelude.{◌≡◌, ◌≤◌, ◌+◌, IfOk, nat_lt};
 ghost use Rattle.esb_reader.specs.Reader.{Gives, choose, fail, node, pure};
 ghost use Rattle.esb_inner.specs.Inner.{ReadsWithin};
 ghost use Rattle.esb_operator_laws.specs.Unary as spec;
 ghost use Rattle.esb_expressions.specs.Prefixes as prefixes;
 
 use crate::kinds::{begins_postfix, is_prefix, is_update};
-use esb_base::Text;
+use esb_base::{Memory, Text};
 use esb_grammar::Context;
-use esb_inner::{Readers, boxed};
+use esb_inner::Readers;
+use esb_nodes::{Discard, Nested, with};
 use esb_reader::{Fault, Node, Reading, peek, take};
 use esb_token::{Goal, Token};
 use esb_tree::{Expression, is_unary};
-use sqlite_items::Boxed;
 use std::alloc::Global;
 use std::marker::PhantomData;
 
 /// Reads operators. What reads a LeftHandSideExpression within a number of levels is handed in.
+#[derive(Drop)]
 pub struct Operators<'a, R, L> {
     pub alloc: Global,
     pub text: &'a Text,
@@ -28,16 +29,17 @@ pub struct Operators<'a, R, L> {
     pub readers: PhantomData<R>,
 }
 
-/// A node of an operator and the operand behind it.
-fn make_prefix(operator: Token, x: Boxed<Expression>) -> Expression
-    ensures { result ≡ spec.make_prefix (operator, x) }
+/// An operator and the operand behind it as an expression.
+fn prefix_of(alloc: Global, operator: Token, x: Expression) -> Result<Expression, Memory>
+    ensures { IfOk result (λ made. made ≡ spec.make_prefix (operator, x)) }
 {
+    let x = x.boxed(alloc)?;
     if is_update(operator.kind) {
-        Expression::PrefixUpdate(operator, x)
+        Ok(Expression::PrefixUpdate(operator, x))
     } else if is_unary(operator.kind) {
-        Expression::Unary(operator, x)
+        Ok(Expression::Unary(operator, x))
     } else {
-        Expression::Await(operator, x)
+        Ok(Expression::Await(operator, x))
     }
 }
 
@@ -55,12 +57,13 @@ pub fn postfix_behind(
     if !begins_postfix(peek(text, Goal::Div, at)) {
         return Ok((x, at));
     }
-    let (operator, end) = take(text, Goal::Div, at)?;
+    let (x, (operator, end)) = with(x, take(text, Goal::Div, at))?;
     if !begins_postfix(operator) || x.levels >= levels {
+        x.discard();
         return Err(Fault::NoTree(operator.start));
     }
     let levels = x.levels + 1;
-    let tree = Expression::PostfixUpdate(boxed(alloc, x.tree)?, operator);
+    let tree = Expression::PostfixUpdate(x.tree.boxed(alloc)?, operator);
     Ok((Node { tree, levels }, end))
 }
 
@@ -75,10 +78,11 @@ fn prefix_node(
     ensures { Gives result (choose (nat_lt x.levels levels) (pure (node (spec.make_prefix (operator, x.tree)) (x.levels + 1))) fail at) }
 {
     if x.levels >= levels {
+        x.discard();
         return Err(Fault::NoTree(at));
     }
     let levels = x.levels + 1;
-    let tree = make_prefix(operator, boxed(alloc, x.tree)?);
+    let tree = prefix_of(alloc, operator, x.tree)?;
     Ok((Node { tree, levels }, at))
 }
 

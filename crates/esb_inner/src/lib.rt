@@ -2,10 +2,8 @@
 //! handed the functions that read what stands in its nodes. The crate that ties them together hands in the functions themselves.
 #![tactic(auto)]
 
-mod nesting;
 mod parser;
 mod readers;
 
-pub use nesting::boxed;
 pub use parser::Parser;
 pub use readers::Readers;

@@ -13,6 +13,7 @@ use std::alloc::Global;
 use std::marker::PhantomData;
 
 /// What a parser of nodes stands on.
+#[derive(Drop)]
 pub struct Parser<'a, R, F, S> {
     pub alloc: Global,
     pub text: &'a Text,

@@ -1,4 +1,2 @@
-pub mod Bodies
-pub mod Definitions
 pub mod Handed
-pub mod Heads
+pub mod Pieces

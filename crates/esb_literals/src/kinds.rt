@@ -6,9 +6,10 @@ ghost use Rattle.esb_grammar.specs.Kinds as kinds;
 ghost use Rattle.esb_grammar.specs.Contexts as contexts;
 ghost use Rattle.esb_expression_laws.specs.Lists as lists;
 ghost use Rattle.esb_literal_laws.specs.Bindings as bindings;
-ghost use Rattle.esb_literal_laws.specs.Classes as classes;
 ghost use Rattle.esb_literal_laws.specs.Methods as methods;
+ghost use Rattle.esb_literal_laws.specs.Objects as objects;
 ghost use Rattle.esb_literal_laws.specs.Templates as templates;
+ghost use Rattle.esb_literals.specs.Pieces as pieces;
 
 use esb_grammar::{Context, Form, is_property_word};
 use esb_token::{Kind, Token};
@@ -76,13 +77,13 @@ pub fn stands_alone(token: Token) -> bool
     ends_element(token) || is_assign(token.kind)
 }
 
-fn is_left_bracket(kind: Kind) -> bool
+pub fn is_left_bracket(kind: Kind) -> bool
     ensures { result ≡ kinds.is_left_bracket kind }
 {
     matches!(kind, Kind::LeftBracket)
 }
 
-fn is_star(kind: Kind) -> bool
+pub fn is_star(kind: Kind) -> bool
     ensures { result ≡ kinds.is_star kind }
 {
     matches!(kind, Kind::Star)
@@ -95,6 +96,33 @@ pub fn begins_name(token: Token) -> bool
     is_property_word(token.kind) || is_left_bracket(token.kind) || is_star(token.kind)
 }
 
+pub fn opener(form: Form) -> Kind
+    ensures { result ≡ forms.opener form }
+{
+    match form {
+        Form::Array | Form::ArrayPattern => Kind::LeftBracket,
+        Form::Object | Form::ObjectPattern => Kind::LeftBrace,
+        _ => Kind::LeftParenthesis,
+    }
+}
+
+pub fn closer(form: Form) -> Kind
+    ensures { result ≡ forms.closer form }
+{
+    match form {
+        Form::Array | Form::ArrayPattern => Kind::RightBracket,
+        Form::Object | Form::ObjectPattern => Kind::RightBrace,
+        _ => Kind::RightParenthesis,
+    }
+}
+
+/// Patterns in braces.
+pub fn is_braced(form: Form) -> bool
+    ensures { result ≡ pieces.is_braced form }
+{
+    matches!(form, Form::ObjectPattern)
+}
+
 pub fn takes_hole(form: Form, last: bool) -> bool
     ensures { result ≡ forms.takes_hole form last }
 {
@@ -105,14 +133,20 @@ pub fn takes_hole(form: Form, last: bool) -> bool
     }
 }
 
-pub fn is_static(kind: Kind) -> bool
-    ensures { result ≡ kinds.is_static kind }
+pub fn is_ending(kind: Kind) -> bool
+    ensures { result ≡ templates.is_ending kind }
 {
-    matches!(kind, Kind::Static)
+    matches!(kind, Kind::TemplateTail)
 }
 
-pub fn is_extends(kind: Kind) -> bool
-    ensures { result ≡ classes.is_extends kind }
+pub fn is_left_brace(kind: Kind) -> bool
+    ensures { result ≡ kinds.is_left_brace kind }
 {
-    matches!(kind, Kind::Extends)
+    matches!(kind, Kind::LeftBrace)
+}
+
+pub fn is_colon(kind: Kind) -> bool
+    ensures { result ≡ objects.is_colon kind }
+{
+    matches!(kind, Kind::Colon)
 }

@@ -1,19 +1,23 @@
-//! What literals, patterns, functions and classes are put together of (ECMA-262, 12.2, 12.3.8, 13.3.3, 14.1, 14.6): the elements
-//! of lists of values and where these may stand, the parts of templates, names that are bound, properties, names and bodies of
-//! functions, and what classes extend. Each function gives what its reader gives, over functions handed in that read the values.
+//! The parser of literals and patterns (ECMA-262, 12.2, 12.3.8, 13.3, 14.1): lists in parentheses and brackets, templates, names
+//! of properties, patterns, parameters, and lists of bindings. Each function gives what the reader of its production gives, over
+//! functions handed in that read the values.
 #![tactic(auto)]
 
-mod functions;
+mod bindings;
 mod kinds;
 mod literals;
-mod made;
 mod names;
+mod patterns;
 mod places;
 mod properties;
 mod targets;
 mod words;
 
+pub use kinds::{
+    begins_name, closer, ends_element, inside, is_assign, is_colon, is_comma, is_dots,
+    is_left_brace, is_left_bracket, is_star, opener, stands_alone,
+};
 pub use literals::Literals;
-pub use made::make_function;
-pub use places::{bindings_fit, list_fits};
+pub use places::make_list;
 pub use targets::make_property;
+pub use words::{is_accessor, is_async};

@@ -1,4 +1,4 @@
-//! What is read of what is handed in, and the elements of lists of values and of templates.
+//! What is read of what is handed in, lists of values, and templates.
 
 ghost use Rattle.std.specs.Prelude.{◌≡◌, ◌≤◌};
 ghost use Rattle.esb_grammar.specs.Contexts.{inside as inside_of};
@@ -7,17 +7,25 @@ ghost use Rattle.esb_inner.specs.Inner.{ReadsExpressions};
 ghost use Rattle.esb_expression_laws.specs.Lists as lists;
 ghost use Rattle.esb_literal_laws.specs.Templates as templates;
 ghost use Rattle.esb_literals.specs.Handed as handed;
+ghost use Rattle.esb_literals.specs.Pieces as pieces;
 
-use crate::kinds::{ends_element, inside, is_dots, is_middle, takes_spread};
+use crate::kinds::{
+    closer, ends_element, inside, is_comma, is_dots, is_ending, is_middle, opener, takes_spread,
+};
+use crate::places::make_list;
 use esb_base::{List, Text};
 use esb_grammar::{Context, Form};
 use esb_inner::{Parser, Readers};
+use esb_nodes::{Discard, Listed, with};
 use esb_reader::{Fault, Node, Reading, expect, peek, take};
-use esb_token::{Goal, Kind};
-use esb_tree::{Element, Expression, NextElement, Statement, Substitution};
+use esb_token::{Goal, Kind, Token};
+use esb_tree::{
+    Bracketed, Element, Elements, Expression, NextElement, Statement, Substitution, Substitutions,
+};
 use std::alloc::Global;
 
-/// Reads what literals are put together of.
+/// Reads literals, patterns and parameters.
+#[derive(Drop)]
 pub struct Literals<'a, R, F, S> {
     pub parser: &'a Parser<'a, R, F, S>,
 }
@@ -124,6 +132,94 @@ impl<
         Ok((Node { tree, levels }, at))
     }
 
+    /// The elements behind the first.
+    #[tactic(auto, unfolding(crate::specs::Pieces::next_values, esb_reader::specs::Reader::repeated))]
+    fn next_values(
+        &self,
+        form: Form,
+        context: Context,
+        levels: usize,
+        start: usize,
+    ) -> Reading<Node<List<NextElement>>>
+        requires inner { ReadsExpressions R.expression self.now.parser.now.levels (F.pre self.now.parser.now.expression) (F.post self.now.parser.now.expression) }
+        requires fits { levels ≤ self.now.parser.now.levels }
+        ensures { Gives result (pieces.next_values self.now.parser.now.text.now form (handed.values R.expression self.now.parser.now.text.now (inside_of context) levels) start) }
+    {
+        let mut at = start;
+        let mut tree = List::new(self.parser.alloc);
+        let mut deepest = 0;
+        for _turn in 0..self.parser.text.as_bytes().len() {
+            if !is_comma(peek(self.parser.text, Goal::Div, at).kind) {
+                return Ok((
+                    Node {
+                        tree,
+                        levels: deepest,
+                    },
+                    at,
+                ));
+            }
+            let (list, (next, end)) = with(tree, self.next_value(form, context, levels, at))?;
+            deepest = deepest.max(next.levels);
+            tree = next.tree.added_to(list)?;
+            at = end;
+        }
+        Ok((
+            Node {
+                tree,
+                levels: deepest,
+            },
+            at,
+        ))
+    }
+
+    /// The elements of a list of values.
+    #[tactic(auto, unfolding(esb_expression_laws::specs::Lists::list, crate::specs::Pieces::next_values))]
+    fn values(
+        &self,
+        form: Form,
+        context: Context,
+        levels: usize,
+        at: usize,
+    ) -> Reading<Node<Elements>>
+        requires inner { ReadsExpressions R.expression self.now.parser.now.levels (F.pre self.now.parser.now.expression) (F.post self.now.parser.now.expression) }
+        requires fits { levels ≤ self.now.parser.now.levels }
+        ensures { Gives result (lists.list self.now.parser.now.text.now form (handed.values R.expression self.now.parser.now.text.now (inside_of context) levels) at) }
+    {
+        let (first, end) = self.value_element(form, context, levels, at)?;
+        let (first, (rest, end)) = with(first, self.next_values(form, context, levels, end))?;
+        match make_list(form, first, rest) {
+            Some(list) => Ok((list, end)),
+            None => Err(Fault::NoTree(at)),
+        }
+    }
+
+    /// ParenthesizedExpression (12.2.10), Arguments (12.3.8) or ArrayLiteral (12.2.5): a list of AssignmentExpressions. Its
+    /// elements have fewer than `levels`.
+    #[tactic(auto, unfolding(esb_expression_laws::specs::Lists::bracketed))]
+    pub fn bracketed(
+        &self,
+        form: Form,
+        context: Context,
+        levels: usize,
+        at: usize,
+    ) -> Reading<Node<Bracketed>>
+        requires inner { ReadsExpressions R.expression self.now.parser.now.levels (F.pre self.now.parser.now.expression) (F.post self.now.parser.now.expression) }
+        requires fits { levels ≤ self.now.parser.now.levels }
+        ensures { Gives result (lists.bracketed self.now.parser.now.text.now form (handed.values R.expression self.now.parser.now.text.now (inside_of context) levels) at) }
+    {
+        let (begin, at) = expect(self.parser.text, opener(form), at)?;
+        let (list, at) = self.values(form, context, levels, at)?;
+        let (list, (ending, at)) = with(list, expect(self.parser.text, closer(form), at))?;
+        let levels = list.levels;
+        let list = list.tree;
+        let tree = Bracketed {
+            begin,
+            list,
+            ending,
+        };
+        Ok((Node { tree, levels }, at))
+    }
+
     /// A further part of a template, and the value behind it (12.2.9).
     #[tactic(auto, unfolding(esb_literal_laws::specs::Templates::substitution))]
     pub fn substitution(
@@ -153,5 +249,94 @@ impl<
         ensures { result ≡ templates.at_middle self.now.parser.now.text.now at }
     {
         is_middle(peek(self.parser.text, Goal::TemplateTail, at).kind)
+    }
+
+    /// The parts of a template behind its first value.
+    #[tactic(auto, unfolding(esb_literal_laws::specs::Templates::substitutions, esb_reader::specs::Reader::repeated))]
+    fn substitutions(
+        &self,
+        context: Context,
+        levels: usize,
+        start: usize,
+    ) -> Reading<Node<List<Substitution>>>
+        requires inner { ReadsExpressions R.expression self.now.parser.now.levels (F.pre self.now.parser.now.expression) (F.post self.now.parser.now.expression) }
+        requires fits { levels ≤ self.now.parser.now.levels }
+        ensures { Gives result (templates.substitutions self.now.parser.now.text.now (handed.expressions R.expression self.now.parser.now.text.now (inside_of context) levels) start) }
+    {
+        let mut at = start;
+        let mut tree = List::new(self.parser.alloc);
+        let mut deepest = 0;
+        for _turn in 0..self.parser.text.as_bytes().len() {
+            if !self.at_middle(at) {
+                return Ok((
+                    Node {
+                        tree,
+                        levels: deepest,
+                    },
+                    at,
+                ));
+            }
+            let (list, (part, end)) = with(tree, self.substitution(context, levels, at))?;
+            deepest = deepest.max(part.levels);
+            tree = part.tree.added_to(list)?;
+            at = end;
+        }
+        Ok((
+            Node {
+                tree,
+                levels: deepest,
+            },
+            at,
+        ))
+    }
+
+    /// The parts of a template behind its first value, and its end.
+    #[tactic(auto, unfolding(crate::specs::Pieces::template_rest))]
+    fn template_rest(
+        &self,
+        context: Context,
+        levels: usize,
+        at: usize,
+    ) -> Reading<Node<(List<Substitution>, Token)>>
+        requires inner { ReadsExpressions R.expression self.now.parser.now.levels (F.pre self.now.parser.now.expression) (F.post self.now.parser.now.expression) }
+        requires fits { levels ≤ self.now.parser.now.levels }
+        ensures { Gives result (pieces.template_rest self.now.parser.now.text.now (handed.expressions R.expression self.now.parser.now.text.now (inside_of context) levels) at) }
+    {
+        let (rest, at) = self.substitutions(context, levels, at)?;
+        let (rest, (tail, at)) = with(rest, take(self.parser.text, Goal::TemplateTail, at))?;
+        if !is_ending(tail.kind) {
+            rest.discard();
+            return Err(Fault::NoTree(tail.start));
+        }
+        let levels = rest.levels;
+        let tree = (rest.tree, tail);
+        Ok((Node { tree, levels }, at))
+    }
+
+    /// TemplateLiteral with substitutions (12.2.9). Its values have fewer than `levels`.
+    #[tactic(auto, unfolding(esb_literal_laws::specs::Templates::template, crate::specs::Pieces::template_rest))]
+    pub fn template(
+        &self,
+        context: Context,
+        levels: usize,
+        at: usize,
+    ) -> Reading<Node<Substitutions>>
+        requires inner { ReadsExpressions R.expression self.now.parser.now.levels (F.pre self.now.parser.now.expression) (F.post self.now.parser.now.expression) }
+        requires fits { levels ≤ self.now.parser.now.levels }
+        ensures { Gives result (templates.template self.now.parser.now.text.now (handed.expressions R.expression self.now.parser.now.text.now (inside_of context) levels) at) }
+    {
+        let (head, at) = expect(self.parser.text, Kind::TemplateHead, at)?;
+        let (x, at) = self.expression(inside(context), levels, at)?;
+        let (x, (more, at)) = with(x, self.template_rest(context, levels, at))?;
+        let levels = x.levels.max(more.levels);
+        let first = x.tree;
+        let (rest, tail) = more.tree;
+        let tree = Substitutions {
+            head,
+            first,
+            rest,
+            tail,
+        };
+        Ok((Node { tree, levels }, at))
     }
 }

@@ -4,10 +4,14 @@ ghost use Rattle.std.specs.Prelude.{◌≡◌, not, ◌||◌};
 ghost use Rattle.esb_grammar.specs.Forms as forms;
 ghost use Rattle.esb_expression_laws.specs.Lists as lists;
 ghost use Rattle.esb_literal_laws.specs.Bindings as bindings;
+ghost use Rattle.esb_literals.specs.Pieces as pieces;
 
 use crate::kinds::takes_hole;
+use esb_base::List;
 use esb_grammar::Form;
-use esb_tree::{Element, NextElement};
+use esb_nodes::Discard;
+use esb_reader::Node;
+use esb_tree::{Element, Elements, NextElement};
 
 #[tactic(auto, unfolding(esb_expression_laws::specs::Lists::is_hole))]
 fn is_hole(element: &Element) -> bool
@@ -71,15 +75,59 @@ fn rests_last(rest: &[NextElement]) -> bool
 }
 
 /// Whether the elements of a list may stand in their places.
-pub fn list_fits(form: Form, first: &Element, rest: &[NextElement]) -> bool
+fn list_fits(form: Form, first: &Element, rest: &[NextElement]) -> bool
     ensures { result ≡ lists.list_fits form (first.now, rest.now) }
 {
     fits_place(form, is_empty(rest), first) && all_fit(form, rest)
 }
 
+/// A list of its elements, where they may stand in their places.
+pub fn make_list(
+    form: Form,
+    first: Node<Element>,
+    rest: Node<List<NextElement>>,
+) -> Option<Node<Elements>>
+    ensures { result ≡ pieces.list_of_parts form first rest }
+{
+    let fits = list_fits(form, &first.tree, rest.tree.as_slice());
+    if fits {
+        let levels = first.levels.max(rest.levels);
+        let first = first.tree;
+        let rest = rest.tree;
+        let tree = Elements { first, rest };
+        Some(Node { tree, levels })
+    } else {
+        first.discard();
+        rest.discard();
+        None
+    }
+}
+
 /// Whether those of a list of bindings may, where a rest is the last.
-pub fn bindings_fit(form: Form, first: &Element, rest: &[NextElement]) -> bool
+fn bindings_fit(form: Form, first: &Element, rest: &[NextElement]) -> bool
     ensures { result ≡ bindings.bindings_fit form (first.now, rest.now) }
 {
     list_fits(form, first, rest) && rest_fits(is_empty(rest), first) && rests_last(rest)
+}
+
+/// A list of bindings, where they may stand in their places and a rest is the last.
+pub fn make_bound_list(
+    form: Form,
+    first: Node<Element>,
+    rest: Node<List<NextElement>>,
+) -> Option<Node<Elements>>
+    ensures { result ≡ pieces.list_of_bindings form first rest }
+{
+    let fits = bindings_fit(form, &first.tree, rest.tree.as_slice());
+    if fits {
+        let levels = first.levels.max(rest.levels);
+        let first = first.tree;
+        let rest = rest.tree;
+        let tree = Elements { first, rest };
+        Some(Node { tree, levels })
+    } else {
+        first.discard();
+        rest.discard();
+        None
+    }
 }

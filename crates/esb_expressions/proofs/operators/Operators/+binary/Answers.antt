@@ -18,9 +18,9 @@ items-returns-then-not-at_operator g t c =
     let e = one_more (λ n. repeated (at_operator text c.args.context (suc c.args.tight)) (operand text c.args.context (suc c.args.tight) tighter) n (node l.tree l.deepest) l.at) _ l._turn c.loop-turn-test.true l.invariant in
     first_of (search rules, grind (arith, common_steps))
 
-pub items-returns-in_err-operand : goal.items-returns-in_err-operand
+pub items-returns-in_err-list : goal.items-returns-in_err-list
 unfolding repeated
-items-returns-in_err-operand g t c =
+items-returns-in_err-list g t c =
     let l = c.loop-turn in
     let text = c.args.self.now.text.now in
     let tighter = binary text c.args.levels c.args.context (unary text c.args.context (g.R.Readers.left c.args.context text) c.args.levels) c.args.tight in
@@ -39,7 +39,9 @@ items-loop-turn-preserved g t c =
 pub level_behind-returns : goal.level_behind-returns
 level_behind-returns g t c =
     let text = c.args.self.now.text.now in
-    step_gives text c.args.levels c.args.context (unary text c.args.context (g.R.Readers.left c.args.context text) c.args.levels) _ c.args.tight c.args.at c.args.first c.in_ok-rest.rest c.in_ok-rest.at c.in_ok-rest.ensures c.joined.ensures
+    let behind = rw c.in_ok-first.ensures.next at c.items.ensures in
+    let whole = rw c.in_ok-first.ensures.read at c.joined.ensures in
+    step_gives text c.args.levels c.args.context (unary text c.args.context (g.R.Readers.left c.args.context text) c.args.levels) _ c.args.tight c.args.at c.args.first c.in_ok-first.rest c.in_ok-first.at behind whole
 
 pub ladder_behind-returns-in_err-next : goal.ladder_behind-returns-in_err-next
 ladder_behind-returns-in_err-next g t c =
