@@ -1,0 +1,14 @@
+pub mod Names
+pub mod Strings
+pub mod Keys
+pub mod Directives
+pub mod Settings
+pub mod Findings
+pub mod Labels
+pub mod Parameters
+pub mod Roles
+pub mod Shapes
+pub mod Tests
+pub mod Rules
+pub mod Gathered
+pub mod Items

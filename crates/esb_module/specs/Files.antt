@@ -1,0 +1,28 @@
+-- The trees of files.
+use Rattle.std.specs.Prelude.{◌≡◌, ◌≤◌, length, Option, Some, None, Result, Ok, Err}
+use Rattle.esb_tree.specs.declared.modules.Tree.{Tree}
+use Rattle.esb_early.specs.declared.breach.Breach.{Breach}
+use Rattle.esb_early.specs.Findings.{breach, first_of}
+use Rattle.esb_early.specs.Items.{breaches}
+use Rattle.esb_reader.specs.Places.{Text}
+use Rattle.esb_parse.specs.Trees.{IsParsed}
+use Rattle.esb_module.specs.declared.fault.ParseFault.{ParseFault}
+use Rattle.esb_module.specs.declared.fault.ParseFault.TheVariants as fault
+
+-- the first breach of an early rule in a text's tree
+abbrev pub first_breach_in : Text → Tree → Option Breach
+first_breach_in text tree = first_of None (breaches text tree)
+
+-- the text's tree, of no more levels than a tree may have, which breaks a rule first there
+pub record IsBroken (text : Text) (at : ℕ) (rule : ℕ) : Type 0 where
+  pub tree : Tree
+  pub parsed : IsParsed text tree
+  pub first : first_breach_in text tree ≡ Some (breach at rule)
+
+-- The answer is the text's tree where it has one and breaks no rule, its first breach where it breaks one, and a place in the text where it has
+-- none. Or memory was refused.
+abbrev pub ParsesFile : Text → Result Tree ParseFault → Type 0
+ParsesFile text (Ok tree) = IsParsed text tree × (first_breach_in text tree ≡ None)
+ParsesFile text (Err (fault.NoTree at)) = ((tree : Tree) → ¬ (IsParsed text tree)) × (at ≤ length text)
+ParsesFile text (Err (fault.Early at rule)) = IsBroken text at rule
+ParsesFile text (Err fault.Memory) = Unit {0}
