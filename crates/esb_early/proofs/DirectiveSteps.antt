@@ -4,7 +4,7 @@ use Rattle.esb_token.specs.declared.token.Token.{Token}
 use Rattle.esb_tree.specs.declared.statements.Statement.{Statement}
 use Rattle.esb_early.specs.Directives.{is_use_strict, use_strict}
 use Rattle.esb_early.specs.Rules.{facts_of_statement, directive_of_statement}
-use Rattle.esb_early.proofs.Steps.{drop_next}
+use Rattle.esb_early_checks.proofs.Steps.{drop_next}
 
 abbrev told : List Statement → List (Option Token)
 told xs = map (λ f. f.directive) (map facts_of_statement xs)

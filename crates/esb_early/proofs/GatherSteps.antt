@@ -4,7 +4,7 @@ use Rattle.std.proofs.lemmas.List.{append-nil, append_assoc, drop_all}
 use Rattle.esb_token.specs.declared.token.Token.{Token}
 use Rattle.esb_early.specs.declared.gathered.Names.{Names}
 use Rattle.esb_early.specs.Gathered.{Gathers}
-use Rattle.esb_early.proofs.Steps.{drop_next}
+use Rattle.esb_early_checks.proofs.Steps.{drop_next}
 
 pub gathers_none : (a : Names) → Gathers [] a a
 unfolding Gathers

@@ -1,9 +1,9 @@
 -- Steps of the walk over items, and its end.
 use Rattle.std.proofs.Common.{◌≡◌, ℕ, ◌+◌, ◌<◌, length, drop, get_or, List, [], ◌∷◌, ◌++◌, None, false, ap, ◌∙◌}
 use Rattle.std.proofs.lemmas.List.{drop_more}
-use Rattle.esb_early.specs.declared.found.Found.{Found}
-use Rattle.esb_early.specs.Findings.{Finding, Finds, first_of}
-use Rattle.esb_early.proofs.Steps.{finds_is, finds_both}
+use Rattle.esb_early_checks.specs.declared.found.Found.{Found}
+use Rattle.esb_early_checks.specs.Findings.{Finding, Finds, first_of}
+use Rattle.esb_early_checks.proofs.Steps.{finds_is, finds_both}
 
 -- a turn of a loop that reads its item by its place
 pub finds_next_at : {A : Type 0} (f : A → Finding) (total : List A → Finding) (xs : List A) (i : ℕ) (x : A) (a b c d : Found)

@@ -1,45 +1,39 @@
 -- Names that were read, and those that stand there twice.
 use Rattle.std.proofs.Common.{◌≡◌, ℕ, ◌+◌, ◌<◌, ◌≤◌, Bool, true, false, cond, not, ◌||◌, length, drop, get_or, List, [], ◌∷◌, ◌++◌, refl, sym, ap, ◌∙◌, arith}
 use Rattle.std.specs.Prelude.{nat_eq}
-use Rattle.std.specs.Cmp.Lexicographic.{pointwise}
-use Rattle.std.specs.HashSet.{HashSet, contains, Updates}
+use Rattle.std.specs.BTreeMap.{is_at}
+use Rattle.std.specs.BTreeSet.{BTreeSet, contains, Updates}
+use Rattle.std.specs.Cmp.Lexicographic.{pointwise, texts_ties}
 use Rattle.std.specs.List.{list_any}
-use Rattle.std.proofs.lemmas.List.{append-nil, append_assoc, drop_all, drop_more}
+use Rattle.std.proofs.lemmas.List.{drop_all, drop_more}
+use Rattle.std.proofs.Math.Path.{ap₂}
 use Rattle.esb_token.specs.declared.token.Token.{Token}
-use Rattle.esb_early.specs.declared.found.Found.{Found}
-use Rattle.esb_early.specs.Findings.{Finds, breach_if}
-use Rattle.esb_early.specs.Names.{bytes_of, points, points_behind, is_same_name}
-use Rattle.esb_early.specs.Parameters.{has_name, repeated_behind, repeated_breaches, same_points, Holds, Adds}
-use Rattle.esb_early.proofs.Steps.{alike, finds_both, finds_is, finds_nothing, finds_of}
-
--- ---- the code points of a name, one after another
-
-pub points_kept : (list more : List ℕ) (p : ℕ) (next after whole : List ℕ) → more ≡ list ++ p ∷ [] → next ≡ p ∷ after → list ++ next ≡ whole → more ++ after ≡ whole
-points_kept list more p next after whole is goes_on kept = ap (λ l. l ++ after) is ∙ append_assoc list (p ∷ []) after ∙ sym (ap (λ l. list ++ l) goes_on) ∙ kept
-
-pub points_ended : (list name : List ℕ) (at : ℕ) (whole : List ℕ) → length name ≤ at → list ++ points_behind 0 (drop at name) ≡ whole → list ≡ whole
-points_ended list name at whole ended kept = sym (append-nil list) ∙ sym (ap (λ l. list ++ points_behind 0 l) (drop_all at name ended)) ∙ kept
+use Rattle.esb_early_checks.specs.declared.found.Found.{Found}
+use Rattle.esb_early_checks.specs.Findings.{Finds, breach_if}
+use Rattle.esb_names.specs.Names.{bytes_of, points, is_same_name}
+use Rattle.esb_early.specs.Parameters.{has_name, repeated_behind, repeated_breaches, by_points, Holds, Adds}
+use Rattle.esb_early_checks.proofs.Steps.{finds_both, finds_is, finds_nothing, finds_of}
 
 -- ---- the set of names
 
-pub holds_none : {K S : Type 0} (items : K → List ℕ) (text : List ℕ) (set : HashSet K S) → set.keys ≡ [] → Holds items text set []
+pub holds_none : {K : Type 0} (items : K → List ℕ) (text : List ℕ) (set : BTreeSet K) → set.keys ≡ [] → Holds items text set []
 unfolding Holds
-holds_none items text set none name key is = ap (list_any (same_points items key)) none
+holds_none items text set none name key is = ap (list_any (is_at (by_points items key))) none
 
 is_either : (a b : Bool) → cond a true b ≡ a || b
 is_either true b = refl
 is_either false b = refl
 
 either : (a b c d : Bool) → a ≡ b → c ≡ d → cond a true c ≡ b || d
-either a b c d same other = alike (λ x y. cond x true y) same other ∙ is_either b d
+either a b c d same other = ap₂ (λ x y. cond x true y) same other ∙ is_either b d
 
-pub adds_name : {K S : Type 0} (items : K → List ℕ) (text : List ℕ) (name : Token) (key : K) (before after : HashSet K S) (is_new : Bool)
-    → items key ≡ points (bytes_of text name) → is_new ≡ not (contains (same_points items) before key) → Updates (same_points items) before after key true
+pub adds_name : {K : Type 0} (items : K → List ℕ) (text : List ℕ) (name : Token) (key : K) (before after : BTreeSet K) (is_new : Bool)
+    → items key ≡ points (bytes_of text name) → is_new ≡ not (contains (by_points items) before key) → Updates (by_points items) before after key true
     → Adds items text name before after is_new
 unfolding Adds Holds is_same_name
 adds_name items text name key before after is_new is told updates names holds = (
   told ∙ ap not (holds name key is),
-  λ other other_key other_is. updates.0 other_key ∙ either _ _ _ _ (alike (pointwise nat_eq) is other_is) (holds other other_key other_is),
+  λ other other_key other_is. updates.0 other_key ∙ either _ _ _ _ (sym (texts_ties (items key) (items other_key)) ∙ ap₂ (pointwise nat_eq) is other_is) (holds other other_key other_is),
 )
 
 -- ---- names one after another
@@ -58,7 +52,7 @@ repeated_next text names i none before broken a b c d told within goes_on step r
     (finds_both (breach_if (has_name text x before) x.start 9) (repeated_behind text (x ∷ before) (drop (i + 1) names)) b c d (finds_of (λ k. breach_if k x.start 9) (has_name text x before) broken b c told step) rest))
 
 -- a turn of the loop, at the name of a place
-pub repeated_turn : {K S : Type 0} (items : K → List ℕ) (text : List ℕ) (names : List Token) (i : ℕ) (none : Token) (before : List Token) (is_new : Bool) (seen after : HashSet K S) (a b c : Found)
+pub repeated_turn : {K : Type 0} (items : K → List ℕ) (text : List ℕ) (names : List Token) (i : ℕ) (none : Token) (before : List Token) (is_new : Bool) (seen after : BTreeSet K) (a b c : Found)
     → Holds items text seen before → Adds items text (get_or names i none) seen after is_new → i < length names
     → ((end : Found) → Finds (repeated_behind text before (drop i names)) b end → Finds (repeated_breaches text names) a end)
     → Finds (breach_if (not is_new) (get_or names i none).start 9) b c

@@ -46,28 +46,28 @@ use Rattle.esb_tree.specs.declared.statements.ElseIf.{ElseIf, roll-ElseIf, out-E
 use Rattle.esb_tree.specs.declared.statements.IfClause.{IfClause, roll-IfClause, out-IfClause, roll-out-IfClause}
 use Rattle.esb_grammar.specs.Forms.{is_empty}
 use Rattle.esb_grammar.specs.Kinds.{is_binding}
-use Rattle.esb_early.specs.declared.roles.ListRole.{ListRole}
-use Rattle.esb_early.specs.declared.roles.ListRole.TheVariants as lr
-use Rattle.esb_early.specs.declared.roles.Place.{Place}
-use Rattle.esb_early.specs.declared.roles.Role.{Role}
-use Rattle.esb_early.specs.declared.roles.Role.TheVariants as r
-use Rattle.esb_early.specs.declared.setting.Setting.{Setting}
-use Rattle.esb_early.specs.declared.shapes.BracketedShape.{BracketedShape}
-use Rattle.esb_early.specs.declared.shapes.ElementShape.{ElementShape}
-use Rattle.esb_early.specs.declared.shapes.ElementsShape.{ElementsShape}
-use Rattle.esb_early.specs.declared.shapes.ExpressionShape.{ExpressionShape}
-use Rattle.esb_early.specs.declared.shapes.LinkShape.{LinkShape}
-use Rattle.esb_early.specs.declared.shapes.LinksShape.{LinksShape}
-use Rattle.esb_early.specs.declared.shapes.PropertyNameShape.{PropertyNameShape}
+use Rattle.esb_early_checks.specs.declared.roles.ListRole.{ListRole}
+use Rattle.esb_early_checks.specs.declared.roles.ListRole.TheVariants as lr
+use Rattle.esb_early_checks.specs.declared.roles.Place.{Place}
+use Rattle.esb_early_checks.specs.declared.roles.Role.{Role}
+use Rattle.esb_early_checks.specs.declared.roles.Role.TheVariants as r
+use Rattle.esb_early_checks.specs.declared.setting.Setting.{Setting}
+use Rattle.esb_early_checks.specs.declared.shapes.BracketedShape.{BracketedShape}
+use Rattle.esb_early_checks.specs.declared.shapes.ElementShape.{ElementShape}
+use Rattle.esb_early_checks.specs.declared.shapes.ElementsShape.{ElementsShape}
+use Rattle.esb_early_checks.specs.declared.shapes.ExpressionShape.{ExpressionShape}
+use Rattle.esb_early_checks.specs.declared.shapes.LinkShape.{LinkShape}
+use Rattle.esb_early_checks.specs.declared.shapes.LinksShape.{LinksShape}
+use Rattle.esb_early_checks.specs.declared.shapes.PropertyNameShape.{PropertyNameShape}
 use Rattle.esb_early.specs.Directives.{directive_of, use_strict}
-use Rattle.esb_early.specs.Findings.{Finding, together, each, behind, unlabelled}
-use Rattle.esb_early.specs.Keys.{is_constructor, is_proto_in}
-use Rattle.esb_early.specs.Labels.{break_breaches, continue_breaches, label_breaches}
+use Rattle.esb_early_checks.specs.Findings.{Finding, together, each, behind, unlabelled}
+use Rattle.esb_names.specs.Keys.{is_constructor, is_proto_in}
+use Rattle.esb_early_checks.specs.Labels.{break_breaches, continue_breaches, label_breaches}
 use Rattle.esb_early.specs.Parameters.{joined, repeated_breaches}
-use Rattle.esb_early.specs.Roles.{array_role, object_role, parenthesized_role, assigned_role, element_role, spread_role, placed, is_prototype_method}
-use Rattle.esb_early.specs.Settings.{of_loop, of_switch, of_body, of_parameters, of_function, of_function_parameters, of_method_parameters, of_named_method}
-use Rattle.esb_early.specs.Shapes.{other_shape, primary_shape, parenthesized_shape, member_shape, access_link, call_link, template_link, optional_link, links_shape, hole_shape, value_shape, other_element, named_shape, computed_shape, start_of_function, bracketed_shape, elements_shape, property_element, key_of_prototype}
-use Rattle.esb_early.specs.Tests.{second_constructor, second_proto, strict_breaches, accessor_breaches, assignment_breaches, bound_breaches, constructor_breaches, declared_breaches, delete_breaches, initialized_breaches, literal_breaches, member_breaches, meta_breaches, method_property_breaches, operator_breaches, parenthesized_breaches, primary_breaches, reference_breaches, return_breaches, shorthand_breaches, spread_breaches, super_breaches, value_breaches}
+use Rattle.esb_early_checks.specs.Roles.{array_role, object_role, parenthesized_role, assigned_role, element_role, spread_role, placed, is_prototype_method}
+use Rattle.esb_early_checks.specs.Settings.{of_loop, of_switch, of_body, of_parameters, of_function, of_function_parameters, of_method_parameters, of_named_method}
+use Rattle.esb_early_checks.specs.Shapes.{other_shape, primary_shape, parenthesized_shape, member_shape, access_link, call_link, template_link, optional_link, links_shape, hole_shape, value_shape, other_element, named_shape, computed_shape, start_of_function, bracketed_shape, elements_shape, property_element, key_of_prototype}
+use Rattle.esb_early_checks.specs.Tests.{second_constructor, second_proto, strict_breaches, accessor_breaches, assignment_breaches, bound_breaches, constructor_breaches, declared_breaches, delete_breaches, initialized_breaches, literal_breaches, member_breaches, meta_breaches, method_property_breaches, operator_breaches, parenthesized_breaches, primary_breaches, reference_breaches, return_breaches, shorthand_breaches, spread_breaches, super_breaches, value_breaches}
 use Rattle.esb_early.specs.Rules.{Telling, TellingBy, TellingAs, links_breaches, class_elements_breaches, nexts_breaches, are_plain, directive_of_statement, use_strict_of_block, names_of_expression, names_of_link, names_of_element, names_of_bracketed, names_of_elements, names_of_next_element, class_element_step, heritage_step, expression_step, link_step, concise_body_step, element_step, property_name_step, case_clause_step, else_step, finalizer_step, for_start_step, handler_step, maybe_expression_step, statement_step, class_step, operand_step, substitution_step, substitutions_step, function_step, method_step, bracketed_step, elements_step, next_element_step, block_step, declaration_step, else_if_step, if_clause_step, breaches_of_class_element, breaches_of_heritage, breaches_of_expression, breaches_of_link, breaches_of_concise_body, breaches_of_element, breaches_of_property_name, breaches_of_case_clause, breaches_of_else, breaches_of_finalizer, breaches_of_for_start, breaches_of_handler, breaches_of_maybe_expression, breaches_of_statement, breaches_of_class, breaches_of_operand, breaches_of_substitution, breaches_of_substitutions, breaches_of_function, breaches_of_method, breaches_of_bracketed, breaches_of_elements, breaches_of_next_element, breaches_of_block, breaches_of_declaration, breaches_of_else_if, breaches_of_if_clause, facts_of_class_element, facts_of_heritage, facts_of_expression, facts_of_link, facts_of_element, facts_of_property_name, facts_of_statement, facts_of_class, facts_of_substitutions, facts_of_function, facts_of_method, facts_of_bracketed, facts_of_elements, facts_of_next_element, facts_of_block, shape_of_class_element, shape_of_heritage, shape_of_expression, shape_of_link, shape_of_element, shape_of_property_name, shape_of_class, shape_of_substitutions, shape_of_function, shape_of_method, shape_of_bracketed, shape_of_elements, shape_of_next_element, is_loop_of_statement, ClassElementFacts, HeritageFacts, ExpressionFacts, LinkFacts, ElementFacts, PropertyNameFacts, StatementFacts, ClassFacts, SubstitutionsFacts, FunctionFacts, MethodFacts, BracketedFacts, ElementsFacts, NextElementFacts, BlockFacts}
 
 pub is_ClassMethod : (y : ClassElement) (word : Option Token) (method : Method) (text : List ℕ) (setting : Setting) (is_derived : Bool) → y ≡ ce.ClassMethod word method → breaches_of_class_element y text setting is_derived ≡ breaches_of_method method text setting (is_prototype_method word) is_derived

@@ -2,8 +2,8 @@
 use Rattle.std.specs.Prelude.{ℕ, Bool, if◌then◌else◌, nat_eq, List, [], ◌∷◌, Option, Some, None, codes}
 use Rattle.std.specs.Cmp.Lexicographic.{pointwise}
 use Rattle.esb_token.specs.declared.token.Token.{Token}
-use Rattle.esb_early.specs.Keys.{inside, is_text}
-use Rattle.esb_early.specs.Names.{bytes_of}
+use Rattle.esb_names.specs.Keys.{inside, is_text}
+use Rattle.esb_names.specs.Names.{bytes_of}
 
 -- the directive of a statement whose expression is this token alone
 abbrev pub directive_of : Option Token → Option Token

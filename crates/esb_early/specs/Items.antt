@@ -10,12 +10,12 @@ use Rattle.esb_tree.specs.declared.modules.Specifier.{Specifier}
 use Rattle.esb_tree.specs.declared.modules.Specifier.TheVariants as p
 use Rattle.esb_tree.specs.declared.modules.Specifiers.{Specifiers}
 use Rattle.esb_tree.specs.declared.modules.Tree.{Tree}
-use Rattle.esb_early.specs.declared.breach.Breach.{Breach}
-use Rattle.esb_early.specs.declared.roles.Role.TheVariants as r
-use Rattle.esb_early.specs.Findings.{Finding, together}
+use Rattle.esb_early_checks.specs.declared.breach.Breach.{Breach}
+use Rattle.esb_early_checks.specs.declared.roles.Role.TheVariants as r
+use Rattle.esb_early_checks.specs.Findings.{Finding, together}
 use Rattle.esb_early.specs.Rules.{breaches_of_statement, breaches_of_expression}
-use Rattle.esb_early.specs.Settings.{of_module}
-use Rattle.esb_early.specs.Tests.{bound_breaches, reference_breaches}
+use Rattle.esb_early_checks.specs.Settings.{of_module}
+use Rattle.esb_early_checks.specs.Tests.{bound_breaches, reference_breaches}
 
 -- the name that an import binds, which is the other one (15.2.2), or that an export without a module uses (15.2.3.1)
 abbrev pub name_breaches : List ℕ → Bool → Token → Token → Finding

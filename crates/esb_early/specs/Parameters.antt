@@ -1,10 +1,12 @@
 -- The names of parameters that stand there twice (ECMA-262, 14.1.2, 14.2.1, 14.3.1, 14.8.1).
-use Rattle.std.specs.Prelude.{◌≡◌, ℕ, Bool, false, ◌||◌, not, nat_eq, List, [], ◌∷◌, ◌++◌}
-use Rattle.std.specs.Cmp.Lexicographic.{pointwise}
-use Rattle.std.specs.HashSet.{HashSet, contains}
+use Rattle.std.specs.Prelude.{◌≡◌, ℕ, Bool, false, ◌||◌, not, List, [], ◌∷◌, ◌++◌}
+use Rattle.std.specs.declared.cmp.Ordering.{Ordering}
+use Rattle.std.specs.BTreeSet.{BTreeSet, contains}
+use Rattle.std.specs.Cmp.Lexicographic.{slice_cmp}
+use Rattle.std.specs.Ordering.{nat_cmp}
 use Rattle.esb_token.specs.declared.token.Token.{Token}
-use Rattle.esb_early.specs.Findings.{Finding, breach_if}
-use Rattle.esb_early.specs.Names.{bytes_of, is_same_name, points}
+use Rattle.esb_early_checks.specs.Findings.{Finding, breach_if}
+use Rattle.esb_names.specs.Names.{bytes_of, is_same_name, points}
 
 -- lists one behind another
 abbrev pub joined : List (List Token) → List Token
@@ -25,16 +27,16 @@ repeated_behind text before (name ∷ names) labels = breach_if (has_name text n
 abbrev pub repeated_breaches : List ℕ → List Token → Finding
 repeated_breaches text names = repeated_behind text [] names
 
--- ---- how the names that were read are kept: in a set of what they stand for
+-- ---- how the names that were read are kept: in a set, by the order of what they stand for
 
--- whether two keys have the same code points
-abbrev pub same_points : {K : Type 0} → (K → List ℕ) → K → K → Bool
-same_points items x y = pointwise nat_eq (items x) (items y)
+-- the order of two keys by their code points
+abbrev pub by_points : {K : Type 0} → (K → List ℕ) → K → K → Ordering
+by_points items x y = slice_cmp nat_cmp (items x) (items y)
 
 -- the set has the names of the list, and no others
-unfoldable pub Holds : {K S : Type 0} → (K → List ℕ) → List ℕ → HashSet K S → List Token → Type 0
-Holds {K} items text set names = (name : Token) (key : K) → items key ≡ points (bytes_of text name) → contains (same_points items) set key ≡ has_name text name names
+unfoldable pub Holds : {K : Type 0} → (K → List ℕ) → List ℕ → BTreeSet K → List Token → Type 0
+Holds {K} items text set names = (name : Token) (key : K) → items key ≡ points (bytes_of text name) → contains (by_points items) set key ≡ has_name text name names
 
 -- a name is added, which was not there or was
-unfoldable pub Adds : {K S : Type 0} → (K → List ℕ) → List ℕ → Token → HashSet K S → HashSet K S → Bool → Type 0
+unfoldable pub Adds : {K : Type 0} → (K → List ℕ) → List ℕ → Token → BTreeSet K → BTreeSet K → Bool → Type 0
 Adds items text name before after is_new = (names : List Token) → Holds items text before names → (is_new ≡ not (has_name text name names)) × Holds items text after (name ∷ names)

@@ -32,28 +32,28 @@ use Rattle.esb_tree.specs.declared.statements.ElseIf.{ElseIf}
 use Rattle.esb_tree.specs.declared.statements.IfClause.{IfClause}
 use Rattle.esb_grammar.specs.Forms.{is_empty}
 use Rattle.esb_grammar.specs.Kinds.{is_binding}
-use Rattle.esb_early.specs.declared.roles.ListRole.{ListRole}
-use Rattle.esb_early.specs.declared.roles.ListRole.TheVariants as lr
-use Rattle.esb_early.specs.declared.roles.Place.{Place}
-use Rattle.esb_early.specs.declared.roles.Role.{Role}
-use Rattle.esb_early.specs.declared.roles.Role.TheVariants as r
-use Rattle.esb_early.specs.declared.setting.Setting.{Setting}
-use Rattle.esb_early.specs.declared.shapes.BracketedShape.{BracketedShape}
-use Rattle.esb_early.specs.declared.shapes.ElementShape.{ElementShape}
-use Rattle.esb_early.specs.declared.shapes.ElementsShape.{ElementsShape}
-use Rattle.esb_early.specs.declared.shapes.ExpressionShape.{ExpressionShape}
-use Rattle.esb_early.specs.declared.shapes.LinkShape.{LinkShape}
-use Rattle.esb_early.specs.declared.shapes.LinksShape.{LinksShape}
-use Rattle.esb_early.specs.declared.shapes.PropertyNameShape.{PropertyNameShape}
+use Rattle.esb_early_checks.specs.declared.roles.ListRole.{ListRole}
+use Rattle.esb_early_checks.specs.declared.roles.ListRole.TheVariants as lr
+use Rattle.esb_early_checks.specs.declared.roles.Place.{Place}
+use Rattle.esb_early_checks.specs.declared.roles.Role.{Role}
+use Rattle.esb_early_checks.specs.declared.roles.Role.TheVariants as r
+use Rattle.esb_early_checks.specs.declared.setting.Setting.{Setting}
+use Rattle.esb_early_checks.specs.declared.shapes.BracketedShape.{BracketedShape}
+use Rattle.esb_early_checks.specs.declared.shapes.ElementShape.{ElementShape}
+use Rattle.esb_early_checks.specs.declared.shapes.ElementsShape.{ElementsShape}
+use Rattle.esb_early_checks.specs.declared.shapes.ExpressionShape.{ExpressionShape}
+use Rattle.esb_early_checks.specs.declared.shapes.LinkShape.{LinkShape}
+use Rattle.esb_early_checks.specs.declared.shapes.LinksShape.{LinksShape}
+use Rattle.esb_early_checks.specs.declared.shapes.PropertyNameShape.{PropertyNameShape}
 use Rattle.esb_early.specs.Directives.{directive_of, use_strict}
-use Rattle.esb_early.specs.Findings.{Finding, together, each, behind, unlabelled}
-use Rattle.esb_early.specs.Keys.{is_constructor, is_proto_in}
-use Rattle.esb_early.specs.Labels.{break_breaches, continue_breaches, label_breaches}
+use Rattle.esb_early_checks.specs.Findings.{Finding, together, each, behind, unlabelled}
+use Rattle.esb_names.specs.Keys.{is_constructor, is_proto_in}
+use Rattle.esb_early_checks.specs.Labels.{break_breaches, continue_breaches, label_breaches}
 use Rattle.esb_early.specs.Parameters.{joined, repeated_breaches}
-use Rattle.esb_early.specs.Roles.{array_role, object_role, parenthesized_role, assigned_role, element_role, spread_role, placed, is_prototype_method}
-use Rattle.esb_early.specs.Settings.{of_loop, of_switch, of_body, of_parameters, of_function, of_function_parameters, of_method_parameters, of_named_method}
-use Rattle.esb_early.specs.Shapes.{other_shape, primary_shape, parenthesized_shape, member_shape, access_link, call_link, template_link, optional_link, links_shape, hole_shape, value_shape, other_element, named_shape, computed_shape, start_of_function, bracketed_shape, elements_shape, property_element, key_of_prototype}
-use Rattle.esb_early.specs.Tests.{second_constructor, second_proto, strict_breaches, accessor_breaches, assignment_breaches, bound_breaches, constructor_breaches, declared_breaches, delete_breaches, initialized_breaches, literal_breaches, member_breaches, meta_breaches, method_property_breaches, operator_breaches, parenthesized_breaches, primary_breaches, reference_breaches, return_breaches, shorthand_breaches, spread_breaches, super_breaches, value_breaches}
+use Rattle.esb_early_checks.specs.Roles.{array_role, object_role, parenthesized_role, assigned_role, element_role, spread_role, placed, is_prototype_method}
+use Rattle.esb_early_checks.specs.Settings.{of_loop, of_switch, of_body, of_parameters, of_function, of_function_parameters, of_method_parameters, of_named_method}
+use Rattle.esb_early_checks.specs.Shapes.{other_shape, primary_shape, parenthesized_shape, member_shape, access_link, call_link, template_link, optional_link, links_shape, hole_shape, value_shape, other_element, named_shape, computed_shape, start_of_function, bracketed_shape, elements_shape, property_element, key_of_prototype}
+use Rattle.esb_early_checks.specs.Tests.{second_constructor, second_proto, strict_breaches, accessor_breaches, assignment_breaches, bound_breaches, constructor_breaches, declared_breaches, delete_breaches, initialized_breaches, literal_breaches, member_breaches, meta_breaches, method_property_breaches, operator_breaches, parenthesized_breaches, primary_breaches, reference_breaches, return_breaches, shorthand_breaches, spread_breaches, super_breaches, value_breaches}
 
 -- the breaches of a node of a text in a setting
 abbrev pub Telling : Type 0

@@ -3,16 +3,17 @@
 ghost use Rattle.std.specs.Prelude.{◌≡◌, map, nat_eq};
 ghost use Rattle.std.specs.Cmp.Lexicographic.{pointwise};
 ghost use Rattle.esb_early.specs.Directives as spec;
-ghost use Rattle.esb_early.specs.Findings.{Finds};
+ghost use Rattle.esb_early_checks.specs.Findings.{Finds};
 ghost use Rattle.esb_early.specs.Rules as rules;
-ghost use Rattle.esb_early.specs.Tests as tests;
+ghost use Rattle.esb_early_checks.specs.Tests as tests;
 
-use crate::checks::is_same;
-use crate::found::{Found, report_if};
-use crate::keys::{inside, is_text};
-use crate::names::bytes_of;
+use esb_early_checks::{Found, Rule, is_same, report_if};
+use esb_names::{bytes_of, inside, is_text};
 use esb_token::Token;
 use esb_tree::{Block, Expression, Statement};
+
+/// A Use Strict Directive behind parameters that aren't plain names.
+const STRICT: Rule = 16;
 
 /// The token that an expression is.
 fn token_of(x: &Expression) -> Option<Token>
@@ -111,7 +112,7 @@ fn check_directive(is_plain: bool, directive: Option<Token>, out: &mut Found)
     ensures { Finds (tests.strict_breaches is_plain directive) out.old out.new }
 {
     match directive {
-        Some(t) => report_if(!is_plain, t.start, 16, out),
+        Some(t) => report_if(!is_plain, t.start, STRICT, out),
         None => {}
     }
 }

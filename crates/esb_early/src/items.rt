@@ -1,16 +1,14 @@
 //! The items of a module, and the first breach of the whole.
 
 ghost use Rattle.std.specs.Prelude.{◌≡◌, IfOk, None};
-ghost use Rattle.esb_early.specs.Findings.{Finds, first_of};
+ghost use Rattle.esb_early_checks.specs.Findings.{Finds, first_of};
 ghost use Rattle.esb_early.specs.Items as spec;
 
-use crate::breach::Breach;
-use crate::checks::{check_bound, check_reference};
-use crate::found::{Found, begin, finish};
-use crate::roles::Role;
-use crate::setting::of_module;
 use crate::walk::{walk_expression, walk_statement};
-use esb_base::{List, Memory, Text};
+use esb_base::{Memory, Text};
+use esb_early_checks::{
+    Breach, Found, Role, begin, check_bound, check_reference, finish, of_module,
+};
 use esb_token::Token;
 use esb_tree::{ImportClause, ModuleItem, NextSpecifier, Specifier, Specifiers, Tree};
 use std::alloc::Global;

@@ -2,49 +2,30 @@
 
 ghost use Rattle.std.specs.Prelude.{◌≡◌, false, List as Listed, IfOk};
 ghost use Rattle.std.specs.Vec.{vec_items};
-ghost use Rattle.esb_early.specs.Findings.{Finds};
-ghost use Rattle.esb_early.specs.Names as names;
+ghost use Rattle.esb_early_checks.specs.Findings.{Finds};
+ghost use Rattle.esb_names.specs.Names as names;
 ghost use Rattle.esb_early.specs.Parameters as spec;
 ghost use Rattle.esb_early.specs.Parameters.{Adds};
 ghost use Rattle.esb_early.specs.Rules as rules;
 
-use crate::breach::Rule;
-use crate::found::{Found, refuse, report_if};
 use crate::gathered::{Names, gather_bracketed, gather_expression, no_names};
-use crate::names::bytes_of;
-use crate::points::{after, first_length, first_point};
-use esb_base::{List, Memory};
+use esb_base::Memory;
+use esb_early_checks::{Found, Rule, refuse, report_if};
+use esb_names::{bytes_of, points_of};
 use esb_token::Token;
 use esb_tree::{Bracketed, Expression};
 use std::alloc::Global;
-use std::collections::HashSet;
+use std::collections::BTreeSet;
 
 /// A name that an earlier parameter has.
 const REPEATED: Rule = 9;
-
-/// The code points of a name.
-#[tactic(auto, unfolding(crate::specs::Names::points))]
-fn points_of(alloc: Global, name: &[u8]) -> Result<Vec<u32>, Memory>
-    ensures { IfOk result (λ list. vec_items list ≡ names.points name.now) }
-{
-    let mut list = List::new(alloc);
-    let mut at = 0;
-    while at < name.len() {
-        let rest = after(name, at);
-        let width = first_length(rest);
-        let point = first_point(rest);
-        list.push(point)?;
-        at += width;
-    }
-    Ok(list.into_vec())
-}
 
 /// Adds a name to those that were read, and tells whether it was not among them.
 fn add(
     alloc: Global,
     text: &[u8],
     name: Token,
-    seen: &mut HashSet<Vec<u32>>,
+    seen: &mut BTreeSet<Vec<u32>>,
 ) -> Result<bool, Memory>
     ensures { IfOk result (Adds vec_items text.now name seen.old seen.new) }
 {
@@ -59,7 +40,8 @@ fn check_names(text: &[u8], names: &[Token], out: &mut Found)
     if names.len() < 2 {
         return;
     }
-    let mut seen = HashSet::new(out.alloc);
+    // A tree, since names can be chosen so that their hashes are the same.
+    let mut seen = BTreeSet::new(out.alloc);
     for name in names {
         match add(out.alloc, text, *name, &mut seen) {
             Ok(is_new) => report_if(!is_new, name.start, REPEATED, out),

@@ -1,8 +1,8 @@
 -- The trees of files.
 use Rattle.std.specs.Prelude.{◌≡◌, ◌≤◌, length, Option, Some, None, Result, Ok, Err}
 use Rattle.esb_tree.specs.declared.modules.Tree.{Tree}
-use Rattle.esb_early.specs.declared.breach.Breach.{Breach}
-use Rattle.esb_early.specs.Findings.{breach, first_of}
+use Rattle.esb_early_checks.specs.declared.breach.Breach.{Breach}
+use Rattle.esb_early_checks.specs.Findings.{breach, first_of}
 use Rattle.esb_early.specs.Items.{breaches}
 use Rattle.esb_reader.specs.Places.{Text}
 use Rattle.esb_parse.specs.Trees.{IsParsed}

@@ -1,7 +1,7 @@
 use Rattle.std.proofs.Common.{sym, subst}
-use Rattle.esb_early.specs.Findings.{Finds}
-use Rattle.esb_early.specs.Tests.{strict_breaches}
-use Rattle.esb_early.proofs.Steps.{finds_none}
+use Rattle.esb_early_checks.specs.Findings.{Finds}
+use Rattle.esb_early_checks.specs.Tests.{strict_breaches}
+use Rattle.esb_early_checks.proofs.Steps.{finds_none}
 use Rattle.esb_early.proofs.directives.check_directive.Goals as goal
 
 pub returns-in-None : goal.returns-in-None

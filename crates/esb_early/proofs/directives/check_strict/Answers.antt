@@ -1,8 +1,8 @@
 use Rattle.std.proofs.Common.{map, ap, sym, ◌∙◌}
 use Rattle.esb_early.specs.Directives.{use_strict}
 use Rattle.esb_early.specs.Rules as rules
-use Rattle.esb_early.specs.Tests.{strict_breaches}
-use Rattle.esb_early.proofs.Steps.{finds_of}
+use Rattle.esb_early_checks.specs.Tests.{strict_breaches}
+use Rattle.esb_early_checks.proofs.Steps.{finds_of}
 use Rattle.esb_early.proofs.RuleLines.{strict_at_Block}
 use Rattle.esb_early.proofs.directives.check_strict.Goals as goal
 

@@ -2,7 +2,7 @@ use Rattle.std.proofs.Common.{◌∙◌}
 use Rattle.std.proofs.lemmas.Result.{IfOk-weaker}
 use Rattle.esb_early.specs.Items as spec
 use Rattle.esb_early.specs.Items.{breaches}
-use Rattle.esb_early.proofs.Steps.{finds_of_two}
+use Rattle.esb_early_checks.proofs.Steps.{finds_of_two}
 use Rattle.esb_early.proofs.ItemSteps.{all_found}
 use Rattle.esb_early.proofs.items.first_breach.Goals as goal
 

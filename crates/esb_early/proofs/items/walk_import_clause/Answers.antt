@@ -1,6 +1,6 @@
 use Rattle.std.proofs.Common.{ap}
 use Rattle.esb_early.specs.Items as spec
-use Rattle.esb_early.proofs.Steps.{finds_none, finds_then, finds_is}
+use Rattle.esb_early_checks.proofs.Steps.{finds_none, finds_then, finds_is}
 use Rattle.esb_early.proofs.items.walk_import_clause.Goals as goal
 
 pub returns-in-DefaultBinding : goal.returns-in-DefaultBinding

@@ -1,8 +1,8 @@
 use Rattle.std.proofs.Common.{ap}
 use Rattle.esb_early.specs.Items as spec
 use Rattle.esb_early.specs.Rules.{breaches_of_statement, breaches_of_expression}
-use Rattle.esb_early.specs.declared.roles.Role.TheVariants as r
-use Rattle.esb_early.proofs.Steps.{finds_none, finds_is, finds_of}
+use Rattle.esb_early_checks.specs.declared.roles.Role.TheVariants as r
+use Rattle.esb_early_checks.proofs.Steps.{finds_none, finds_is, finds_of}
 use Rattle.esb_early.proofs.items.walk_item.Goals as goal
 
 pub returns-in-Item : goal.returns-in-Item

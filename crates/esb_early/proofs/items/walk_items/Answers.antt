@@ -1,6 +1,6 @@
 use Rattle.std.proofs.Common.{refl}
 use Rattle.esb_early.specs.Items as spec
-use Rattle.esb_early.proofs.Steps.{finds_next, finds_end}
+use Rattle.esb_early_checks.proofs.Steps.{finds_next, finds_end}
 use Rattle.esb_early.proofs.items.walk_items.Goals as goal
 
 pub loop-item-init : goal.loop-item-init

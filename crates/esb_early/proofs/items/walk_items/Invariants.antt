@@ -1,6 +1,6 @@
 use Rattle.std.proofs.Common.{drop}
-use Rattle.esb_early.specs.declared.found.Found.{Found}
-use Rattle.esb_early.specs.Findings.{Finds}
+use Rattle.esb_early_checks.specs.declared.found.Found.{Found}
+use Rattle.esb_early_checks.specs.Findings.{Finds}
 use Rattle.esb_early.specs.Items as spec
 use Rattle.esb_early.proofs.items.walk_items.Given as goal
 

@@ -1,6 +1,6 @@
 use Rattle.std.proofs.Common.{ap}
 use Rattle.esb_early.specs.Items as spec
-use Rattle.esb_early.proofs.Steps.{finds_none, finds_is}
+use Rattle.esb_early_checks.proofs.Steps.{finds_none, finds_is}
 use Rattle.esb_early.proofs.items.walk_specifier.Goals as goal
 
 pub returns-in-NoSpecifier : goal.returns-in-NoSpecifier

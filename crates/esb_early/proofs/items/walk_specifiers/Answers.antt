@@ -1,5 +1,5 @@
 use Rattle.esb_early.specs.Items as spec
-use Rattle.esb_early.proofs.Steps.{finds_none, finds_then, finds_of}
+use Rattle.esb_early_checks.proofs.Steps.{finds_none, finds_then, finds_of}
 use Rattle.esb_early.proofs.items.walk_specifiers.Goals as goal
 
 pub returns : goal.returns

@@ -1,6 +1,6 @@
 use Rattle.std.proofs.Common.{◌∙◌, ap}
 use Rattle.std.specs.Vec.{vec_items}
-use Rattle.esb_early.specs.Names.{points}
+use Rattle.esb_names.specs.Names.{points}
 use Rattle.esb_early.proofs.RepeatedSteps.{adds_name}
 use Rattle.esb_early.proofs.repeated.add.Goals as goal
 

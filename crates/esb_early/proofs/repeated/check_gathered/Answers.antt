@@ -1,6 +1,6 @@
 use Rattle.std.proofs.Common.{ap, ◌∙◌}
 use Rattle.esb_early.specs.Parameters.{repeated_breaches}
-use Rattle.esb_early.proofs.Steps.{finds_of}
+use Rattle.esb_early_checks.proofs.Steps.{finds_of}
 use Rattle.esb_early.proofs.repeated.check_gathered.Goals as goal
 
 pub returns-then-names : goal.returns-then-names

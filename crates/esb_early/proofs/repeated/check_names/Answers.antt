@@ -1,7 +1,7 @@
 use Rattle.std.proofs.Common.{[], drop}
 use Rattle.std.specs.Vec.{vec_items}
 use Rattle.esb_early.specs.Parameters.{repeated_behind}
-use Rattle.esb_early.proofs.Steps.{finds_is, finds_nothing}
+use Rattle.esb_early_checks.proofs.Steps.{finds_is, finds_nothing}
 use Rattle.esb_early.proofs.RepeatedSteps.{holds_none, repeated_turn, repeated_end, repeated_few}
 use Rattle.esb_early.proofs.repeated.check_names.Goals as goal
 

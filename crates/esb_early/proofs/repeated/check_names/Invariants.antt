@@ -1,8 +1,8 @@
 use Rattle.std.proofs.Common.{List, [], drop}
 use Rattle.std.specs.Vec.{vec_items}
 use Rattle.esb_token.specs.declared.token.Token.{Token}
-use Rattle.esb_early.specs.declared.found.Found.{Found}
-use Rattle.esb_early.specs.Findings.{Finds}
+use Rattle.esb_early_checks.specs.declared.found.Found.{Found}
+use Rattle.esb_early_checks.specs.Findings.{Finds}
 use Rattle.esb_early.specs.Parameters.{repeated_behind, repeated_breaches, Holds}
 use Rattle.esb_early.proofs.repeated.check_names.Given as goal
 

@@ -1,5 +1,6 @@
 use Rattle.std.proofs.Common.{◌≡◌, ◌+◌, ◌-◌, ◌&&◌, ◌||◌, ◌==◌, [], fold, length, drop, map, true, false, ap, refl, sym, ◌∙◌}
 use Rattle.std.proofs.lemmas.List.{drop_all}
+use Rattle.std.proofs.Math.Path.{ap₂}
 use Rattle.esb_tree.specs.declared.classes.Class.{out-Class}
 use Rattle.esb_tree.specs.declared.expressions.Operand.{out-Operand}
 use Rattle.esb_tree.specs.declared.expressions.Substitution.{out-Substitution}
@@ -14,18 +15,18 @@ use Rattle.esb_tree.specs.declared.statements.Declaration.{out-Declaration}
 use Rattle.esb_tree.specs.declared.statements.ElseIf.{out-ElseIf}
 use Rattle.esb_tree.specs.declared.statements.IfClause.{out-IfClause}
 use Rattle.esb_grammar.specs.Forms.{is_empty}
-use Rattle.esb_early.specs.declared.roles.ListRole.TheVariants as lr
-use Rattle.esb_early.specs.declared.roles.Role.TheVariants as r
-use Rattle.esb_early.specs.Findings.{each, behind, unlabelled}
+use Rattle.esb_early_checks.specs.declared.roles.ListRole.TheVariants as lr
+use Rattle.esb_early_checks.specs.declared.roles.Role.TheVariants as r
+use Rattle.esb_early_checks.specs.Findings.{each, behind, unlabelled}
 use Rattle.esb_early.specs.Parameters.{repeated_breaches}
-use Rattle.esb_early.specs.Roles.{array_role, object_role, parenthesized_role, assigned_role, element_role, spread_role, placed, is_prototype_method}
+use Rattle.esb_early_checks.specs.Roles.{array_role, object_role, parenthesized_role, assigned_role, element_role, spread_role, placed, is_prototype_method}
 use Rattle.esb_early.specs.Rules as spec
-use Rattle.esb_early.specs.Settings.{of_loop, of_switch, of_body, of_parameters, of_function, of_function_parameters, of_method_parameters, of_named_method}
-use Rattle.esb_early.specs.Shapes.{other_shape, primary_shape, parenthesized_shape, member_shape, access_link, call_link, template_link, optional_link, links_shape, hole_shape, value_shape, other_element, named_shape, computed_shape, start_of_function, bracketed_shape, elements_shape, property_element, key_of_prototype, after_link}
-use Rattle.esb_early.specs.Tests.{second_constructor, second_proto, strict_breaches, accessor_breaches, assignment_breaches, bound_breaches, constructor_breaches, declared_breaches, delete_breaches, initialized_breaches, literal_breaches, member_breaches, meta_breaches, method_property_breaches, operator_breaches, parenthesized_breaches, primary_breaches, reference_breaches, return_breaches, shorthand_breaches, spread_breaches, super_breaches, value_breaches}
-use Rattle.esb_early.specs.Keys.{is_constructor, is_proto_in}
-use Rattle.esb_early.specs.Labels.{break_breaches, continue_breaches, label_breaches}
-use Rattle.esb_early.proofs.Steps.{alike, alike_three, mapped_empty, drop_next, finds_none, finds_nothing, finds_both, finds_then, finds_is, finds_of, finds_of_two, finds_of_three, finds_behind, finds_unlabelled, finds_next, finds_next_place, finds_end, one_less, no_length, plain_next, plain_end}
+use Rattle.esb_early_checks.specs.Settings.{of_loop, of_switch, of_body, of_parameters, of_function, of_function_parameters, of_method_parameters, of_named_method}
+use Rattle.esb_early_checks.specs.Shapes.{other_shape, primary_shape, parenthesized_shape, member_shape, access_link, call_link, template_link, optional_link, links_shape, hole_shape, value_shape, other_element, named_shape, computed_shape, start_of_function, bracketed_shape, elements_shape, property_element, key_of_prototype, after_link}
+use Rattle.esb_early_checks.specs.Tests.{second_constructor, second_proto, strict_breaches, accessor_breaches, assignment_breaches, bound_breaches, constructor_breaches, declared_breaches, delete_breaches, initialized_breaches, literal_breaches, member_breaches, meta_breaches, method_property_breaches, operator_breaches, parenthesized_breaches, primary_breaches, reference_breaches, return_breaches, shorthand_breaches, spread_breaches, super_breaches, value_breaches}
+use Rattle.esb_names.specs.Keys.{is_constructor, is_proto_in}
+use Rattle.esb_early_checks.specs.Labels.{break_breaches, continue_breaches, label_breaches}
+use Rattle.esb_early_checks.proofs.Steps.{alike_three, mapped_empty, drop_next, finds_none, finds_nothing, finds_both, finds_then, finds_is, finds_of, finds_of_two, finds_of_three, finds_behind, finds_unlabelled, finds_next, finds_next_place, finds_end, one_less, no_length, plain_next, plain_end}
 use Rattle.esb_early.proofs.RuleLines.{is_ClassMethod, is_EmptyElement, is_NoHeritage, is_Extends, is_Primary, is_MetaProperty, is_ArrayLiteral, is_ObjectLiteral, is_Parenthesized, is_TemplateLiteral, is_FunctionExpression, is_ClassExpression, is_Member, is_New, is_NewPlain, is_ImportCall, is_PrefixUpdate, is_PostfixUpdate, is_Unary, is_Await, is_Binary, is_Conditional, is_Assignment, is_Arrow, is_AsyncArrow, is_Yield, is_YieldValue, is_YieldEach, is_Dot, is_Index, is_Call, is_Tagged, is_TaggedTemplate, is_OptionalDot, is_OptionalIndex, is_OptionalCall, is_ConciseValue, is_ConciseBlock, is_Hole, is_Value, is_Spread, is_Shorthand, is_Initialized, is_Property, is_MethodProperty, is_Named, is_Computed, is_Case, is_Default, is_NoElse, is_Otherwise, is_NoFinalizer, is_Finally, is_NoStart, is_StartExpression, is_StartDeclaration, is_NoHandler, is_Catch, is_CatchParameter, is_Absent, is_Present, is_BlockStatement, is_Variables, is_Empty, is_ExpressionStatement, is_If, is_DoWhile, is_While, is_For, is_ForEach, is_Continue, is_Break, is_Return, is_Switch, is_Labelled, is_Throw, is_Try, is_Debugger, is_FunctionDeclaration, is_ClassDeclaration, at_Class, at_Operand, at_Substitution, at_Substitutions, at_Function, at_Method, at_Bracketed, at_NextElement, at_Block, at_Declaration, at_ElseIf, at_IfClause, at_Elements, shape_at_Elements, shape_ClassMethod, shape_EmptyElement, shape_NoHeritage, shape_Extends, shape_Primary, shape_MetaProperty, shape_ArrayLiteral, shape_ObjectLiteral, shape_Parenthesized, shape_TemplateLiteral, shape_FunctionExpression, shape_ClassExpression, shape_Member, shape_New, shape_NewPlain, shape_ImportCall, shape_PrefixUpdate, shape_PostfixUpdate, shape_Unary, shape_Await, shape_Binary, shape_Conditional, shape_Assignment, shape_Arrow, shape_AsyncArrow, shape_Yield, shape_YieldValue, shape_YieldEach, shape_Dot, shape_Index, shape_Call, shape_Tagged, shape_TaggedTemplate, shape_OptionalDot, shape_OptionalIndex, shape_OptionalCall, shape_Hole, shape_Value, shape_Spread, shape_Shorthand, shape_Initialized, shape_Property, shape_MethodProperty, shape_Named, shape_Computed, shape_at_Class, shape_at_Substitutions, shape_at_Function, shape_at_Method, shape_at_Bracketed, shape_at_NextElement, each_statement, each_link, each_next, each_class_element, told_link, told_next}
 use Rattle.esb_early.proofs.walk.+walk.Goals as goal
 
@@ -66,7 +67,7 @@ pub walk_expression-returns-in-ClassExpression : goal.walk_expression-returns-in
 walk_expression-returns-in-ClassExpression t c = record { shape = c.other_shape-in-ClassExpression.ensures ∙ ap (λ s0. other_shape s0) (c.walk_class-class.ensures.shape ∙ ap spec.shape_of_class c.get-in-ClassExpression.ensures) ∙ sym (shape_ClassExpression _ _ c.in-ClassExpression.is); breaches = finds_is _ _ _ _ (is_ClassExpression _ _ _ _ _ c.in-ClassExpression.is) (finds_then _ _ _ _ _ (finds_of (λ y. spec.breaches_of_class y c.args.text.now c.args.setting) _ _ _ _ c.get-in-ClassExpression.ensures c.walk_class-class.ensures.breaches) (finds_then _ _ _ _ _ (finds_of (λ s0. value_breaches c.args.role s0) _ _ _ _ (c.walk_class-class.ensures.shape ∙ ap spec.shape_of_class c.get-in-ClassExpression.ensures) c.check_value-in-ClassExpression.ensures) (finds_none _))) }
 
 pub walk_expression-returns-in-Member : goal.walk_expression-returns-in-Member
-walk_expression-returns-in-Member t c = record { shape = c.member_shape.ensures ∙ alike (λ s0 s1. member_shape s0.start s1) (c.walk_expression-object.ensures.shape ∙ ap spec.shape_of_expression c.get-in-Member.ensures) (c.walk_links-links.ensures.shape ∙ ap (λ xs. links_shape (map (λ f. f.shape) (map spec.facts_of_link xs))) c.as_slice.ensures) ∙ sym (shape_Member _ _ _ c.in-Member.is); breaches = finds_is _ _ _ _ (is_Member _ _ _ _ _ _ c.in-Member.is) (finds_then _ _ _ _ _ (finds_of (λ y. spec.breaches_of_expression y c.args.text.now c.args.setting r.Value) _ _ _ _ c.get-in-Member.ensures c.walk_expression-object.ensures.breaches) (finds_then _ _ _ _ _ (finds_of (λ y. spec.links_breaches c.args.text.now c.args.setting c.args.role (map spec.facts_of_link y)) _ _ _ _ c.as_slice.ensures c.walk_links-links.ensures.breaches) (finds_then _ _ _ _ _ (finds_of_two (λ s0 s1. super_breaches s0.token s1.begins_with_call c.args.setting) _ _ _ _ _ _ (c.walk_expression-object.ensures.shape ∙ ap spec.shape_of_expression c.get-in-Member.ensures) (c.walk_links-links.ensures.shape ∙ ap (λ xs. links_shape (map (λ f. f.shape) (map spec.facts_of_link xs))) c.as_slice.ensures) c.check_super.ensures) (finds_then _ _ _ _ _ (finds_of_two (λ s0 s1. member_breaches c.args.role s0 s1.start) _ _ _ _ _ _ (c.walk_links-links.ensures.shape ∙ ap (λ xs. links_shape (map (λ f. f.shape) (map spec.facts_of_link xs))) c.as_slice.ensures) (c.walk_expression-object.ensures.shape ∙ ap spec.shape_of_expression c.get-in-Member.ensures) c.check_member.ensures) (finds_none _))))) }
+walk_expression-returns-in-Member t c = record { shape = c.member_shape.ensures ∙ ap₂ (λ s0 s1. member_shape s0.start s1) (c.walk_expression-object.ensures.shape ∙ ap spec.shape_of_expression c.get-in-Member.ensures) (c.walk_links-links.ensures.shape ∙ ap (λ xs. links_shape (map (λ f. f.shape) (map spec.facts_of_link xs))) c.as_slice.ensures) ∙ sym (shape_Member _ _ _ c.in-Member.is); breaches = finds_is _ _ _ _ (is_Member _ _ _ _ _ _ c.in-Member.is) (finds_then _ _ _ _ _ (finds_of (λ y. spec.breaches_of_expression y c.args.text.now c.args.setting r.Value) _ _ _ _ c.get-in-Member.ensures c.walk_expression-object.ensures.breaches) (finds_then _ _ _ _ _ (finds_of (λ y. spec.links_breaches c.args.text.now c.args.setting c.args.role (map spec.facts_of_link y)) _ _ _ _ c.as_slice.ensures c.walk_links-links.ensures.breaches) (finds_then _ _ _ _ _ (finds_of_two (λ s0 s1. super_breaches s0.token s1.begins_with_call c.args.setting) _ _ _ _ _ _ (c.walk_expression-object.ensures.shape ∙ ap spec.shape_of_expression c.get-in-Member.ensures) (c.walk_links-links.ensures.shape ∙ ap (λ xs. links_shape (map (λ f. f.shape) (map spec.facts_of_link xs))) c.as_slice.ensures) c.check_super.ensures) (finds_then _ _ _ _ _ (finds_of_two (λ s0 s1. member_breaches c.args.role s0 s1.start) _ _ _ _ _ _ (c.walk_links-links.ensures.shape ∙ ap (λ xs. links_shape (map (λ f. f.shape) (map spec.facts_of_link xs))) c.as_slice.ensures) (c.walk_expression-object.ensures.shape ∙ ap spec.shape_of_expression c.get-in-Member.ensures) c.check_member.ensures) (finds_none _))))) }
 
 pub walk_expression-returns-in-New : goal.walk_expression-returns-in-New
 walk_expression-returns-in-New t c = record { shape = c.other_shape-in-New.ensures ∙ sym (shape_New _ _ _ _ c.in-New.is); breaches = finds_is _ _ _ _ (is_New _ _ _ _ _ _ _ c.in-New.is) (finds_then _ _ _ _ _ (finds_of (λ y. spec.breaches_of_expression y c.args.text.now c.args.setting r.Value) _ _ _ _ c.get-in-New.ensures c.walk_expression.ensures.breaches) (finds_then _ _ _ _ _ (finds_of (λ y. spec.breaches_of_bracketed y c.args.text.now c.args.setting lr.Values) _ _ _ _ c.get-in-New-2.ensures c.walk_bracketed.ensures.breaches) (finds_then _ _ _ _ _ c.check_value-in-New.ensures (finds_none _)))) }

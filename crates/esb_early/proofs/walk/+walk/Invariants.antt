@@ -1,8 +1,8 @@
 use Rattle.std.proofs.Common.{◌≡◌, ◌&&◌, fold, length, map, drop}
-use Rattle.esb_early.specs.declared.found.Found.{Found}
-use Rattle.esb_early.specs.Findings.{Finds, each}
+use Rattle.esb_early_checks.specs.declared.found.Found.{Found}
+use Rattle.esb_early_checks.specs.Findings.{Finds, each}
 use Rattle.esb_early.specs.Rules as spec
-use Rattle.esb_early.specs.Shapes.{links_shape, after_link}
+use Rattle.esb_early_checks.specs.Shapes.{links_shape, after_link}
 use Rattle.esb_early.proofs.walk.+walk.Given as goal
 
 abbrev pub invariant-walk_case_clauses-loop-item : goal.invariant-walk_case_clauses-loop-item
