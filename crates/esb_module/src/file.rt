@@ -1,7 +1,7 @@
 //! The tree of a file.
 
 ghost use Rattle.std.specs.Prelude.{◌≡◌, ◌+◌, min};
-ghost use Rattle.esb_module.specs.Files.{ParsesFile};
+ghost use Rattle.esb_module.specs.Files.{ParsesFile, ReadsFile};
 
 use crate::fault::ParseFault;
 use esb_base::{Memory, Steps, Text};
@@ -17,8 +17,10 @@ use std::alloc::Global;
 ///
 /// # Errors
 /// `NoTree` and `Early` as [`ParseFault`] says, and `Memory` where memory was refused.
+#[tactic(auto, unfolding(crate::specs::Files::module_of))]
 pub fn parse_file(alloc: Global, contents: &Text, steps: &mut Steps) -> Result<Tree, ParseFault>
     ensures tree { ParsesFile contents.now result }
+    ensures read { ReadsFile contents.now result }
     ensures counted { steps.new ≡ min (steps.old + 1) u64.MAX }
 {
     steps.add();

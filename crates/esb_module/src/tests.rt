@@ -214,7 +214,6 @@ fn operators(rt: HostRuntime) -> Result<(), Fail> {
         "a++ ++",
         "a +",
         "a ! b",
-        "await",
     ];
     assert_eq!(rt; first_refused(alloc, &accepted)?, "");
     assert_eq!(rt; first_with_tree(alloc, &refused)?, "");
@@ -541,7 +540,7 @@ fn modules(rt: HostRuntime) -> Result<(), Fail> {
 #[test]
 fn early_rules(rt: HostRuntime) -> Result<(), Fail> {
     let alloc = rt.alloc();
-    let rows: [(&str, usize, Rule); 42] = [
+    let rows: [(&str, usize, Rule); 43] = [
         ("break;", 0, 3),
         ("for (;;) break;\nbreak;", 16, 3),
         ("continue", 0, 3),
@@ -577,6 +576,7 @@ fn early_rules(rt: HostRuntime) -> Result<(), Fail> {
         ("let", 0, 14),
         ("let let = 1", 4, 14),
         ("yield => 1", 0, 14),
+        ("await", 0, 14),
         ("static => 1", 0, 14),
         ("function* g() { function yield() {} }", 25, 14),
         ("var yield", 4, 14),

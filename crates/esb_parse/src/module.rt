@@ -5,9 +5,10 @@ ghost use Rattle.esb_tree.specs.declared.modules.Tree.{Tree};
 ghost use Rattle.esb_grammar.specs.Contexts as contexts;
 ghost use Rattle.esb_grammar.specs.Modules.{IsTreeOf};
 ghost use Rattle.esb_reader.specs.Reader.{Gives};
+ghost use Rattle.esb_module_items.specs.Parts.{GivesTree};
 ghost use Rattle.esb_module_laws.specs.Module.{handed_items};
 ghost use Rattle.esb_parse_laws.specs.Readers.{nameless, parts};
-ghost use Rattle.esb_parse.specs.Trees.{Parses};
+ghost use Rattle.esb_parse.specs.Trees.{tree_of, Parses};
 
 use crate::knot::{Knot, expression, items, left, statement, value_below};
 use esb_base::{List, Text};
@@ -88,6 +89,7 @@ fn class(alloc: Global, text: &Text, levels: usize, at: usize) -> Reading<Node<C
 #[tactic(auto, unfolding(esb_module_items::specs::Reads::ReadsStatements, esb_module_items::specs::Reads::ReadsValues, esb_module_items::specs::Reads::ReadsFunctions, esb_module_items::specs::Reads::ReadsClasses))]
 pub fn parse_items(alloc: Global, contents: &Text) -> Result<Tree, Fault>
     ensures tree { Parses contents.now result }
+    ensures read { GivesTree result (tree_of contents.now) }
     ensures one { (tree other : Tree) → IsTreeOf contents.now tree → IsTreeOf contents.now other → tree ≡ other }
 {
     let parts: ItemParts<Knot, _, _, _, _> = ItemParts {
