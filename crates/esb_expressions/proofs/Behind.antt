@@ -72,10 +72,6 @@ module _ (text : Text) (n : ℕ) (c : Context) (unary : Reader (Node Expression)
       fails_too fault (step text n c (suc tight) (pure x) (binary text n c unary tight) j) (ladder text n c unary first level i)
       (λ none. none_looser first (suc tight) level i (omega (arith, below)) (next_level first tight i x j so_far ∙ none)) h
 
-  pub level_goes : (first : Reader (Node Expression)) (tight i : ℕ) (x : Node Expression) (j : ℕ) (y : Node Expression) (k : ℕ) → ladder text n c unary first tight i ≡ Some (x, j)
-      → step text n c (suc tight) (pure x) (binary text n c unary tight) j ≡ Some (y, k) → ladder text n c unary first (tight + 1) i ≡ Some (y, k)
-  level_goes first tight i x j y k so_far h = ap (λ (own : ℕ). ladder text n c unary first own i) (add-one tight) ∙ next_level first tight i x j so_far ∙ h
-
   -- behind what was read up to a level, the operators of the next level and their operands
   pub step_gives : (r : Result (Node Expression × ℕ) Fault) (tight i : ℕ) (x : Node Expression) (rest : Node (List Operand)) (j : ℕ) → items text c (suc tight) (binary text n c unary tight) i ≡ Some (rest, j)
       → Gives r (joined n (tight + 1) x rest j) → Gives r (step text n c (suc tight) (pure x) (binary text n c unary tight) i)

@@ -160,7 +160,6 @@ impl<
     }
 
     /// A declaration in the head of a `for`.
-    #[tactic(auto, unfolding(crate::specs::Lists::loose_declaration, crate::specs::Lists::loose_bindings))]
     fn declared_start(&self, context: Context, at: usize) -> Reading<Node<ForStart>>
         requires bindings { ReadsBindings R.handed self.now.levels (B.pre self.now.binding) (B.post self.now.binding) }
         ensures { Gives result (spec.declared_start self.now.text.now context self.now.levels (R.handed self.now.text.now self.now.levels) at) }
