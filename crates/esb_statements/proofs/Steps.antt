@@ -1,5 +1,5 @@
 -- How loops over lists begin, and what a reader is of another.
-use Rattle.std.proofs.Common.{◌≡◌, ℕ, true, ◌+◌, length, Some, None, Err, refl, ap, ◌∙◌, arith}
+use Rattle.std.proofs.Common.{◌≡◌, ℕ, true, ◌+◌, length, Some, None, Err, refl, ap, subst, ◌∙◌, arith}
 use Rattle.esb_tree.specs.declared.statements.ForStart.TheVariants as fs
 use Rattle.esb_tree.specs.declared.statements.Declaration.{Declaration}
 use Rattle.esb_grammar.specs.declared.context.Context.{Context}
@@ -30,9 +30,12 @@ module _ (text : Text) (c : Context) (n : ℕ) (r : Handed) (i : ℕ) where
   unfolding loose_declaration loose_bindings
   start_declares = refl
 
-  pub start_fails : (fault : Fault) → Gives (Err fault) (loose_declaration text (without_in c) n r i) → Gives (Err fault) (declared_start text c n r i)
-  start_fails fault.Memory h = tt
-  start_fails (fault.NoTree at) h = start_declares ∙ (rw h refl)
+  fails_too : (fault : Fault) → Gives (Err fault) (loose_declaration text (without_in c) n r i) → Gives (Err fault) (declared_start text c n r i)
+  fails_too fault.Memory h = tt
+  fails_too (fault.NoTree at) h = start_declares ∙ (rw h refl)
+
+  pub start_fails : (fault : Fault) (bare : Context) → bare ≡ without_in c → Gives (Err fault) (loose_declaration text bare n r i) → Gives (Err fault) (declared_start text c n r i)
+  start_fails fault bare same h = fails_too fault (subst (λ (b : Context). Gives (Err fault) (loose_declaration text b n r i)) same h)
 
   pub start_gives : (x : Node Declaration) (j : ℕ) → loose_declaration text (without_in c) n r i ≡ Some (x, j) → declared_start text c n r i ≡ Some (node (fs.StartDeclaration x.tree) x.levels, j)
   start_gives x j h =
