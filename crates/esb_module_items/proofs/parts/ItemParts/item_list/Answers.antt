@@ -5,7 +5,14 @@ use Rattle.esb_reader.specs.Parts.{behind}
 use Rattle.esb_statement_laws.specs.Marks.{begins_item}
 use Rattle.esb_module_laws.specs.Items.{module_item}
 use Rattle.esb_statement_tests.proofs.Steps.{one_more}
-use Rattle.esb_module_items.proofs.items.ItemParts.item_list.Goals as goal
+use Rattle.esb_module_items.proofs.Steps.{items_begin}
+use Rattle.esb_module_items.proofs.parts.ItemParts.item_list.Goals as goal
+
+pub loop-turn-init : goal.loop-turn-init
+loop-turn-init g c =
+    let this = c.args.self.now in
+    let e = items_begin this.text.now this.levels (g.R.ItemReaders.handed this.text.now this.levels) c.args.start in
+    first_of (search rules, grind (arith, common_steps))
 
 pub loop-turn-preserved : goal.loop-turn-preserved
 unfolding repeated

@@ -3,7 +3,7 @@ use Rattle.esb_reader.specs.Reader.{repeated, node}
 use Rattle.esb_reader.specs.Parts.{behind}
 use Rattle.esb_statement_laws.specs.Marks.{begins_item}
 use Rattle.esb_module_laws.specs.Items.{item_list, module_item}
-use Rattle.esb_module_items.proofs.items.ItemParts.item_list.Given as goal
+use Rattle.esb_module_items.proofs.parts.ItemParts.item_list.Given as goal
 
 abbrev pub invariant-loop-turn : goal.invariant-loop-turn
 invariant-loop-turn g l =
