@@ -64,3 +64,38 @@ def talk(program, folder, requests):
 def replies(*values):
     """The packets that answer requests with the ids 0, 1, 2 and so on by these."""
     return b"".join(frame(2 * number + 1, value) for number, value in enumerate(values))
+
+
+def value_at(data, at):
+    """The value that is spelled from a place on, and the place behind it."""
+    kind, at = data[at], at + 1
+    if kind == 0:
+        return None, at
+    if kind == 1:
+        return data[at] == 1, at + 1
+    count, at = int.from_bytes(data[at : at + 4], "little"), at + 4
+    if kind == 2:
+        return count, at
+    if kind in (3, 4):
+        part = data[at : at + count]
+        return part.decode() if kind == 3 else part, at + count
+    if kind == 5:
+        items = []
+        for _ in range(count):
+            item, at = value_at(data, at)
+            items.append(item)
+        return items, at
+    pairs = {}
+    for _ in range(count):
+        length = int.from_bytes(data[at : at + 4], "little")
+        key, at = data[at + 4 : at + 4 + length].decode(), at + 4 + length
+        pairs[key], at = value_at(data, at)
+    return pairs, at
+
+
+def read(data):
+    """The value that all of these bytes spell."""
+    value, at = value_at(data, 0)
+    if at != len(data):
+        sys.exit("bytes behind a value")
+    return value

@@ -1,5 +1,5 @@
 -- What a reader does behind a first node that was read.
-use Rattle.std.proofs.Common.{◌≡◌, ℕ, zero, suc, ◌+◌, ◌<◌, ◌≤◌, ◌⊎◌, inl, inr, List, Result, Some, None, Err, refl, sym, ap, subst, ◌∙◌, add-one, arith}
+use Rattle.std.proofs.Common.{◌≡◌, ℕ, zero, suc, ◌+◌, ◌<◌, ◌≤◌, ◌⊎◌, inl, inr, Bool, false, List, length, Result, Some, None, Err, refl, sym, ap, subst, ◌∙◌, add-one, arith}
 use Rattle.std.proofs.lemmas.Bool.{cases_lt}
 use Rattle.esb_tree.specs.declared.expressions.Expression.{Expression}
 use Rattle.esb_tree.specs.declared.expressions.Expression.TheVariants as e
@@ -9,13 +9,14 @@ use Rattle.esb_reader.specs.declared.fault.Fault.{Fault}
 use Rattle.esb_reader.specs.declared.fault.Fault.TheVariants as fault
 use Rattle.esb_reader.specs.declared.node.Node.{Node}
 use Rattle.esb_reader.specs.Places.{Text}
-use Rattle.esb_reader.specs.Reader.{Found, Reader, and_then, choose, pure, fail, Gives}
-use Rattle.esb_reader.specs.Parts.{over}
+use Rattle.esb_reader.specs.Reader.{Found, Reader, and_then, choose, pure, fail, none, repeated, Gives}
+use Rattle.esb_reader.specs.Parts.{behind, over}
 use Rattle.esb_grammar.specs.Contexts.{inside}
 use Rattle.esb_grammar.specs.Grammar.{loosest}
 use Rattle.esb_assignment_laws.specs.Assignments.{chosen, assigned}
 use Rattle.esb_expressions.specs.Values.{valued}
-use Rattle.esb_operator_laws.specs.Ladder.{fits_level, items, joined, ladder, step, binary}
+use Rattle.esb_expression_laws.specs.Operators.{is_operator, operand}
+use Rattle.esb_operator_laws.specs.Ladder.{at_operator, fits_level, items, joined, ladder, step, binary}
 
 again : {A : Type 0} (p : Found A) → p ≡ and_then p (λ x j. Some (x, j))
 again None = refl
@@ -29,6 +30,16 @@ regroup (Some p) f g h = refl
 pub fails_too : {A B : Type 0} (e : Fault) (p : Found A) (q : Found B) → (p ≡ None → q ≡ None) → Gives (Err e) p → Gives (Err e) q
 fails_too fault.Memory p q f h = tt
 fails_too (fault.NoTree at) p q f h = f h
+
+-- a list ends where its test fails
+repeated_ends : {A : Type 0} (test : ℕ → Bool) (item : Reader (Node A)) (turns : ℕ) (found : Node (List A)) (i : ℕ) → test i ≡ false → repeated test item turns found i ≡ Some (found, i)
+unfolding repeated
+repeated_ends test item zero found i h = refl
+repeated_ends test item (suc turns) found i h = rw h refl
+
+items_end : (text : Text) (c : Context) (own : ℕ) (tighter : Reader (Node Expression)) (i : ℕ) → at_operator text c own i ≡ false → items text c own tighter i ≡ Some (none, i)
+unfolding items
+items_end text c own tighter i h = repeated_ends (at_operator text c own) (operand text c own tighter) (length text) none i h
 
 module _ (text : Text) (n : ℕ) (c : Context) (unary : Reader (Node Expression)) where
   pub behind_first : (first : Reader (Node Expression)) (level i : ℕ) → ladder text n c unary first level i ≡ and_then (first i) (λ x j. ladder text n c unary (pure x) level j)
@@ -61,16 +72,21 @@ module _ (text : Text) (n : ℕ) (c : Context) (unary : Reader (Node Expression)
       fails_too fault (step text n c (suc tight) (pure x) (binary text n c unary tight) j) (ladder text n c unary first level i)
       (λ none. none_looser first (suc tight) level i (omega (arith, below)) (next_level first tight i x j so_far ∙ none)) h
 
-  pub level_goes : (first : Reader (Node Expression)) (tight i : ℕ) (x : Node Expression) (j : ℕ) (y : Node Expression) (k : ℕ) → ladder text n c unary first tight i ≡ Some (x, j)
-      → step text n c (suc tight) (pure x) (binary text n c unary tight) j ≡ Some (y, k) → ladder text n c unary first (tight + 1) i ≡ Some (y, k)
-  level_goes first tight i x j y k so_far h = ap (λ (own : ℕ). ladder text n c unary first own i) (add-one tight) ∙ next_level first tight i x j so_far ∙ h
-
   -- behind what was read up to a level, the operators of the next level and their operands
   pub step_gives : (r : Result (Node Expression × ℕ) Fault) (tight i : ℕ) (x : Node Expression) (rest : Node (List Operand)) (j : ℕ) → items text c (suc tight) (binary text n c unary tight) i ≡ Some (rest, j)
       → Gives r (joined n (tight + 1) x rest j) → Gives r (step text n c (suc tight) (pure x) (binary text n c unary tight) i)
   step_gives r tight i x rest j some h =
       let same : Gives r (joined n (suc tight) x rest j) = subst (λ (own : ℕ). Gives r (joined n own x rest j)) (add-one tight) h in
       rw some same
+
+  -- where no operator of the next level stands, the node has to be what that level takes
+  pub step_skips : (r : Result (Node Expression × ℕ) Fault) (tight i : ℕ) (x : Node Expression) → is_operator c (suc tight) (behind text i) ≡ false
+      → Gives r (choose (fits_level (tight + 1) x.tree) (pure x) fail i) → Gives r (step text n c (suc tight) (pure x) (binary text n c unary tight) i)
+  unfolding at_operator
+  step_skips r tight i x not_there h =
+      let none_read : items text c (suc tight) (binary text n c unary tight) i ≡ Some (none, i) = items_end text c (suc tight) (binary text n c unary tight) i not_there in
+      let same : Gives r (choose (fits_level (suc tight) x.tree) (pure x) fail i) = subst (λ (own : ℕ). Gives r (choose (fits_level own x.tree) (pure x) fail i)) (add-one tight) h in
+      rw none_read same
 
   after : (level : ℕ) → Found (Node Expression) → Found (Node Expression)
   after level p = and_then p (λ x j. ladder text n c unary (pure x) level j)

@@ -3,8 +3,8 @@
 
 ghost use Rattle.std.specs.Prelude.{◌≡◌, ◌<◌, ◌≤◌, suc};
 ghost use Rattle.esb_tree.specs.declared.expressions.Expression.TheVariants as e;
-ghost use Rattle.esb_reader.specs.Reader.{Gives, pure};
-ghost use Rattle.esb_reader.specs.Parts.{over};
+ghost use Rattle.esb_reader.specs.Reader.{Gives, choose, fail, pure};
+ghost use Rattle.esb_reader.specs.Parts.{behind, over};
 ghost use Rattle.esb_inner.specs.Inner.{ReadsWithin};
 ghost use Rattle.esb_expression_laws.specs.Operators as operands;
 ghost use Rattle.esb_operator_laws.specs.Unary as unary;
@@ -18,7 +18,7 @@ use esb_grammar::Context;
 use esb_inner::Readers;
 use esb_nodes::{Discard, Listed, Nested, with};
 use esb_reader::{Fault, Node, Reading, peek, take};
-use esb_token::Goal;
+use esb_token::{Goal, Token};
 use esb_tree::{Expression, Operand};
 use std::alloc::Global;
 
@@ -51,6 +51,17 @@ fn chained(
     ))
 }
 
+/// A node that has to be what a level takes.
+fn fitting(own: u8, x: Node<Expression>, at: usize) -> Reading<Node<Expression>>
+    ensures { Gives result (choose (spec.fits_level own x.tree) (pure x) fail at) }
+{
+    if !fits_level(own, &x.tree) {
+        x.discard();
+        return Err(Fault::NoTree(at));
+    }
+    Ok((x, at))
+}
+
 /// A first operand and those behind it, which have to be what their level takes.
 fn joined(
     alloc: Global,
@@ -63,11 +74,7 @@ fn joined(
     ensures { Gives result (spec.joined levels own first rest at) }
 {
     let (x, at) = chained(alloc, levels, first, rest, at)?;
-    if !fits_level(own, &x.tree) {
-        x.discard();
-        return Err(Fault::NoTree(at));
-    }
-    Ok((x, at))
+    fitting(own, x, at)
 }
 
 /// Whether an operator one level looser than `tight` stands at a place.
@@ -154,7 +161,8 @@ impl<
         ))
     }
 
-    /// What follows operators up to `tight`: those one level looser.
+    /// What follows operators up to `tight`: those one level looser. The token that follows is known, so that it isn't read again
+    /// for each level.
     #[cycle(binary)]
     fn level_behind(
         &self,
@@ -162,13 +170,18 @@ impl<
         levels: usize,
         tight: u8,
         first: Node<Expression>,
+        next: Token,
         at: usize,
     ) -> Reading<Node<Expression>>
+        requires known { next ≡ behind self.now.text.now at }
         requires left { ReadsWithin R.left self.now.levels (L.pre self.now.left) (L.post self.now.left) }
         requires fits { levels ≤ self.now.levels }
         requires small { tight < 255 }
         ensures { Gives result (spec.step self.now.text.now levels context (suc tight) (pure first) (spec.binary self.now.text.now levels context (unary.unary self.now.text.now context (R.left context self.now.text.now) levels) tight) at) }
     {
+        if !is_operator(context, tight, next) {
+            return fitting(tight + 1, first, at);
+        }
         let (first, (rest, at)) = with(first, self.items(context, levels, tight, at))?;
         joined(self.alloc, levels, tight + 1, first, rest, at)
     }
@@ -190,10 +203,14 @@ impl<
     {
         let mut x = first;
         let mut at = start;
+        let mut next = peek(self.text, Goal::Div, at);
         for tight in 0..level {
-            let (next, end) = self.level_behind(context, levels, tight, x, at)?;
-            x = next;
-            at = end;
+            let (y, end) = self.level_behind(context, levels, tight, x, next, at)?;
+            x = y;
+            if end != at {
+                at = end;
+                next = peek(self.text, Goal::Div, at);
+            }
         }
         Ok((x, at))
     }

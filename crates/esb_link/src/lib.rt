@@ -8,7 +8,7 @@ mod order;
 mod scanned;
 
 pub use fault::LinkFault;
-pub use laws::{each_entry_has_its_output, outputs_ascend};
+pub use laws::{each_entry_has_its_output, files_are_the_outputs, outputs_ascend};
 pub use linking::link;
 
 #[cfg(test)]

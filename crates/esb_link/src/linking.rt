@@ -10,11 +10,11 @@ use esb_flags::Options;
 use std::alloc::Global;
 
 /// Links a build whose table is finished: its files in the order of their paths, or what is wrong, with the messages of the
-/// entries first and then those of their files. Contents are shared.
+/// entries first and then those of their files, or else those of paths that outputs share with other contents. Contents are shared.
 pub fn link(alloc: Global, options: &Options, table: &Table) -> Result<List<OutFile>, LinkFault>
     requires { IsComplete options.now table.now }
     ensures ok { IfOk result (λ files. serial_link options.now table.now ≡ Ok files) }
-    ensures err { IfErr result (λ fault. IsFault (serial_link options.now table.now) fault) }
+    ensures err { IfErr result (IsFault options.now table.now) }
 {
     let Scanned {
         of_entries,
@@ -26,6 +26,9 @@ pub fn link(alloc: Global, options: &Options, table: &Table) -> Result<List<OutF
     if !messages.is_empty() {
         return Err(LinkFault::Errors(messages));
     }
-    let files = sorted(alloc, outputs)?;
+    let (files, shared) = sorted(alloc, outputs)?;
+    if !shared.is_empty() {
+        return Err(LinkFault::Errors(shared));
+    }
     Ok(files)
 }

@@ -33,6 +33,20 @@ behind_dot (Some split) = if length split.0 == 0 then None else Some split.1
 unfoldable pub extension_of : List ℕ → Option (List ℕ)
 extension_of path = behind_dot (rsplit_once dot (last_segment path))
 
+-- ---- names of outputs
+
+abbrev pub before_dot : List ℕ → Option (List ℕ × List ℕ) → List ℕ
+before_dot path None = path
+before_dot path (Some split) = split.0
+
+abbrev pub stem_by : List ℕ → Option (List ℕ) → List ℕ
+stem_by path None = path
+stem_by path (Some extension) = before_dot path (rsplit_once dot path)
+
+-- the path without its extension and its dot
+unfoldable pub stem_of : List ℕ → List ℕ
+stem_of path = stem_by path (extension_of path)
+
 -- ---- loaders
 
 -- the loader that a flag gives the extension

@@ -1,8 +1,10 @@
 -- What the scan says is wrong.
 use Rattle.std.specs.Prelude.{ℕ, if◌then◌else◌, List, [], ◌∷◌, ◌++◌, codes}
+use Rattle.std.specs.Fmt.{decimal}
 use Rattle.std.specs.Str.{bytes_eq}
 use Rattle.esb_base.specs.declared.file_name.FileName.{FileName}
 use Rattle.esb_ask.specs.declared.message.Message.{Message}
+use Rattle.esb_msgs.specs.Lines.{told, line_of, column_of}
 use Rattle.esb_path.specs.Paths.{relative_path}
 
 -- a message without a place
@@ -27,3 +29,25 @@ of_file cwd name text = record { text = text; file = shown cwd name; line = 1; c
 
 abbrev pub no_loader : List ℕ → FileName → Message
 no_loader cwd name = of_file cwd name (codes "No loader for " ++ name.path)
+
+abbrev pub not_utf8 : List ℕ → FileName → Message
+not_utf8 cwd name = of_file cwd name (codes "Not UTF-8")
+
+-- a message of a place in a file with these contents
+abbrev pub of_place : List ℕ → FileName → List ℕ → ℕ → List ℕ → Message
+of_place cwd name contents at text = record {
+  text = text;
+  file = shown cwd name;
+  line = told (line_of contents at);
+  column = told (column_of contents at);
+  length = 0;
+}
+
+abbrev pub early_error : List ℕ → FileName → List ℕ → ℕ → ℕ → Message
+early_error cwd name contents at rule = of_place cwd name contents at (codes "Early error " ++ decimal rule)
+
+abbrev pub syntax_text : List ℕ
+syntax_text = codes "Syntax error"
+
+abbrev pub syntax_error : List ℕ → FileName → List ℕ → ℕ → Message
+syntax_error cwd name contents at = of_place cwd name contents at syntax_text

@@ -20,8 +20,10 @@ use Rattle.esb_ask.specs.Table.{answer_to}
 use Rattle.esb_scan.specs.declared.run.Run.{Run}
 use Rattle.esb_scan.specs.declared.run.Run.TheVariants as run_of
 use Rattle.esb_scan.specs.Loaders.{loader_of}
+use Rattle.esb_scan.specs.Likeness.{normal_product, IsPlacedProduct}
 use Rattle.esb_scan.specs.Messages.{cannot_read, not_found, no_loader}
 use Rattle.esb_scan.specs.Paths.{below}
+use Rattle.esb_scan.specs.Scripts.{script, IsNoSyntaxError, IsPlacedScript}
 use Rattle.esb_scan.specs.Unbuilt.{not_built}
 
 -- ---- questions
@@ -65,13 +67,16 @@ run_numbered options table (Some entry) = run_entry options table entry
 
 -- ---- loads
 
--- what the loading gives of a file's contents
+-- What the loading gives of a file's contents. A loader that says `empty` doesn't look at them.
 abbrev pub read_by : Options → FileName → List ℕ → Option Loader → Loaded
 read_by options name contents None = loaded.Refused (no_loader options.cwd name)
 read_by options name contents (Some loader.Copy) = loaded.Copied contents
-read_by options name contents (Some other) = loaded.Refused (not_built options.cwd name)
+read_by options name contents (Some loader.Js) = script options.cwd name contents
+read_by options name contents (Some loader.Empty) = loaded.Copied []
+read_by options name contents (Some loader.Json) = loaded.Refused (not_built options.cwd name)
+read_by options name contents (Some loader.Txt) = loaded.Refused (not_built options.cwd name)
 
--- What the loading gives by what the file has. Its loader is looked at once the contents are there.
+-- What the loading gives by what the file has. Its loader is looked at once the contents are there. A syntax error has no place here.
 abbrev pub loaded_by : Options → FileName → Answer → Loaded
 loaded_by options name answer.File = loaded.Refused (cannot_read name.path)
 loaded_by options name answer.Folder = loaded.Refused (cannot_read name.path)
@@ -79,6 +84,15 @@ loaded_by options name answer.Missing = loaded.Refused (cannot_read name.path)
 loaded_by options name answer.TooBig = loaded.Refused (cannot_read name.path)
 loaded_by options name answer.Fault = loaded.Refused (cannot_read name.path)
 loaded_by options name (answer.Bytes contents) = read_by options name contents (loader_of options.flags name.path)
+
+-- a syntax error in it is at a place of what the file has
+abbrev pub IsPlacedAnswer : List ℕ → FileName → Answer → Loaded → Type 0
+IsPlacedAnswer cwd name answer.File loading = IsNoSyntaxError loading
+IsPlacedAnswer cwd name answer.Folder loading = IsNoSyntaxError loading
+IsPlacedAnswer cwd name answer.Missing loading = IsNoSyntaxError loading
+IsPlacedAnswer cwd name answer.TooBig loading = IsNoSyntaxError loading
+IsPlacedAnswer cwd name answer.Fault loading = IsNoSyntaxError loading
+IsPlacedAnswer cwd name (answer.Bytes contents) loading = IsPlacedScript cwd name contents loading
 
 -- the run for a file
 abbrev pub run_load : Options → List (Question × Answer) → FileName → Run
@@ -131,3 +145,9 @@ abbrev pub IsRun : Run → Run → Type 0
 IsRun wanted (run_of.Asks asked) = run_of.Asks asked ≡ wanted
 IsRun wanted (run_of.Done given) = run_of.Done given ≡ wanted
 IsRun wanted run_of.Memory = Unit {0}
+
+-- the same but for the place of a syntax error, which is any of its file
+abbrev pub IsRunBut : List ℕ → List (Question × Answer) → Run → Run → Type 0
+IsRunBut cwd table wanted (run_of.Asks asked) = run_of.Asks asked ≡ wanted
+IsRunBut cwd table wanted (run_of.Done given) = (run_of.Done (normal_product given) ≡ wanted) × IsPlacedProduct cwd table given
+IsRunBut cwd table wanted run_of.Memory = Unit {0}

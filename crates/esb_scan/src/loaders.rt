@@ -2,7 +2,7 @@
 
 ghost use Rattle.std.specs.Prelude.{◌≡◌};
 ghost use Rattle.std.specs.Option.{option_copied};
-ghost use Rattle.esb_scan.specs.Loaders.{last_segment, extension_of, given, default_loader, loader_of};
+ghost use Rattle.esb_scan.specs.Loaders.{last_segment, extension_of, given, default_loader, loader_of, stem_of};
 
 use esb_base::{Flags, Loader, Text};
 
@@ -21,6 +21,20 @@ fn extension_of(path: &str) -> Option<&str>
     match last_segment(path).rsplit_once('.') {
         Some((stem, extension)) if !stem.is_empty() => Some(extension),
         _ => None,
+    }
+}
+
+/// The path without its extension and its dot.
+#[tactic(auto, unfolding(crate::specs::Loaders::stem_of))]
+pub fn stem_of(path: &str) -> &str
+    ensures { result.now ≡ stem_of path.now }
+{
+    match extension_of(path) {
+        Some(_) => match path.rsplit_once('.') {
+            Some((stem, _)) => stem,
+            None => path,
+        },
+        None => path,
     }
 }
 

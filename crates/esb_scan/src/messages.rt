@@ -1,10 +1,11 @@
 //! What the scan says is wrong.
 
 ghost use Rattle.std.specs.Prelude.{◌≡◌, IfOk};
-ghost use Rattle.esb_scan.specs.Messages.{unplaced, cannot_read, not_found, shown, of_file, no_loader};
+ghost use Rattle.esb_scan.specs.Messages.{unplaced, cannot_read, not_found, shown, of_file, no_loader, not_utf8, of_place, early_error, syntax_error};
 
 use esb_ask::Message;
 use esb_base::{FileName, Memory, Text};
+use esb_msgs::place_of;
 use esb_path::relative;
 use std::alloc::Global;
 
@@ -77,4 +78,61 @@ pub(crate) fn no_loader(alloc: Global, cwd: &Text, name: &FileName) -> Result<Me
     let path = name.path.as_str();
     let text = format!(in alloc; "No loader for {path}")?;
     of_file(alloc, cwd, name, text.as_str())
+}
+
+pub(crate) fn not_utf8(alloc: Global, cwd: &Text, name: &FileName) -> Result<Message, Memory>
+    ensures { IfOk result (λ message. message ≡ not_utf8 cwd.now name.now) }
+{
+    of_file(alloc, cwd, name, "Not UTF-8")
+}
+
+/// A message of a place in a file. One behind the end of the contents counts as their end.
+fn of_place(
+    alloc: Global,
+    cwd: &Text,
+    name: &FileName,
+    contents: &[u8],
+    at: usize,
+    text: &str,
+) -> Result<Message, Memory>
+    ensures { IfOk result (λ message. message ≡ of_place cwd.now name.now contents.now at text.now) }
+{
+    let (line, column) = place_of(contents, at.min(contents.len()));
+    let text = Text::of(alloc, text)?;
+    let file = shown(alloc, cwd, name)?;
+    Ok(Message {
+        text,
+        file,
+        line,
+        column,
+        length: 0,
+    })
+}
+
+/// The message of a file in which an early rule is broken first at a place.
+pub(crate) fn early_error(
+    alloc: Global,
+    cwd: &Text,
+    name: &FileName,
+    contents: &[u8],
+    at: usize,
+    rule: u8,
+) -> Result<Message, Memory>
+    ensures { IfOk result (λ message. message ≡ early_error cwd.now name.now contents.now at rule) }
+{
+    let text = format!(in alloc; "Early error {rule}")?;
+    of_place(alloc, cwd, name, contents, at, text.as_str())
+}
+
+/// The message of a file that has no tree, told at a place.
+pub(crate) fn syntax_error(
+    alloc: Global,
+    cwd: &Text,
+    name: &FileName,
+    contents: &[u8],
+    at: usize,
+) -> Result<Message, Memory>
+    ensures { IfOk result (λ message. message ≡ syntax_error cwd.now name.now contents.now at) }
+{
+    of_place(alloc, cwd, name, contents, at, "Syntax error")
 }

@@ -1,9 +1,14 @@
 ghost use Rattle.std.specs.Prelude.{◌≡◌, IfOk};
-ghost use Rattle.esb_scan.specs.Run.{run, run_entry, run_load, resolved_by, read_by, loaded_by, system_file, IsRun};
+ghost use Rattle.std.specs.Prelude.{Some};
+ghost use Rattle.esb_ask.specs.Table.{answer_to};
+ghost use Rattle.esb_scan.specs.Likeness.{normal_loaded, IsPlacedLoad};
+ghost use Rattle.esb_scan.specs.Run.{run, run_entry, run_load, resolved_by, read_by, loaded_by, system_file, IsPlacedAnswer, IsRun, IsRunBut};
+ghost use Rattle.esb_scan.specs.Scripts.{IsPlacedScript};
 
 use crate::loaders::loader_of;
 use crate::messages::{cannot_read, no_loader, not_found};
 use crate::paths::below;
+use crate::scripts::script;
 use crate::unbuilt::not_built;
 use esb_ask::{Answer, Loaded, Product, Question, Resolved, Table, Task};
 use esb_base::{Blob, FileName, Loader, Memory, Text};
@@ -50,12 +55,15 @@ fn read_by(
     contents: &Blob,
     loader: Option<Loader>,
 ) -> Result<Loaded, Memory>
-    ensures { IfOk result (λ loaded. loaded ≡ read_by options.now name.now contents.now loader) }
+    ensures alike { IfOk result (λ loaded. normal_loaded loaded ≡ read_by options.now name.now contents.now loader) }
+    ensures placed { IfOk result (IsPlacedScript options.now.cwd name.now contents.now) }
 {
     match loader {
         None => Ok(Loaded::Refused(no_loader(alloc, &options.cwd, name)?)),
         Some(Loader::Copy) => Ok(Loaded::Copied(contents.share()?)),
-        Some(Loader::Js | Loader::Json | Loader::Txt | Loader::Empty) => {
+        Some(Loader::Js) => script(alloc, &options.cwd, name, contents),
+        Some(Loader::Empty) => Ok(Loaded::Copied(Blob::of(alloc, b"")?)),
+        Some(Loader::Json | Loader::Txt) => {
             Ok(Loaded::Refused(not_built(alloc, &options.cwd, name)?))
         }
     }
@@ -67,7 +75,8 @@ fn loaded_by(
     name: &FileName,
     answer: &Answer,
 ) -> Result<Loaded, Memory>
-    ensures { IfOk result (λ loaded. loaded ≡ loaded_by options.now name.now answer.now) }
+    ensures alike { IfOk result (λ loaded. normal_loaded loaded ≡ loaded_by options.now name.now answer.now) }
+    ensures placed { IfOk result (IsPlacedAnswer options.now.cwd name.now answer.now) }
 {
     match answer {
         Answer::Bytes(contents) => {
@@ -100,7 +109,7 @@ fn try_entry(
 }
 
 fn try_load(alloc: Global, options: &Options, table: &Table, name: &FileName) -> Result<Run, Memory>
-    ensures { IfOk result (λ done. done ≡ run_load options.now table.now name.now) }
+    ensures { IfOk result (IsRunBut options.now.cwd table.now (run_load options.now table.now name.now)) }
 {
     let asked = Question::Read(name.path.share()?);
     match table.get(&asked) {
@@ -113,7 +122,7 @@ fn try_load(alloc: Global, options: &Options, table: &Table, name: &FileName) ->
 }
 
 fn try_task(alloc: Global, options: &Options, table: &Table, task: &Task) -> Result<Run, Memory>
-    ensures { IfOk result (λ done. done ≡ run options.now table.now task.now) }
+    ensures { IfOk result (IsRunBut options.now.cwd table.now (run options.now table.now task.now)) }
 {
     match task {
         Task::Entry(number) => match options.entries.get(*number as usize) {
@@ -136,7 +145,7 @@ pub fn run_entry(alloc: Global, options: &Options, table: &Table, entry: &(Text,
 
 /// The run for a file. The task that loads it does the same.
 pub fn run_load(alloc: Global, options: &Options, table: &Table, name: &FileName) -> Run
-    ensures { IsRun (run_load options.now table.now name.now) result }
+    ensures { IsRunBut options.now.cwd table.now (run_load options.now table.now name.now) result }
 {
     match try_load(alloc, options, table, name) {
         Ok(done) => done,
@@ -145,9 +154,9 @@ pub fn run_load(alloc: Global, options: &Options, table: &Table, name: &FileName
 }
 
 /// Runs a task over the answers so far: the first question that they lack, or else the task's product. It answers `Memory` only
-/// where memory was refused.
+/// where memory was refused. A text that has no tree may be told at any of its places.
 pub fn run_task(alloc: Global, options: &Options, table: &Table, task: &Task) -> Run
-    ensures { IsRun (run options.now table.now task.now) result }
+    ensures { IsRunBut options.now.cwd table.now (run options.now table.now task.now) result }
 {
     match try_task(alloc, options, table, task) {
         Ok(done) => done,

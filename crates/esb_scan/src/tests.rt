@@ -115,19 +115,19 @@ fn what_a_load_gives(rt: HostRuntime) -> Result<(), Fail> {
     Ok(())
 }
 
-/// A path below the working folder, and what its load gives: the text of a message, or none where it is copied.
+/// A path below the working folder, and what its load gives: the text of a message, or none where it is copied or printed.
 const LOADED: [(&str, &str); 18] = [
     ("/w/x.d", ""),
     ("/w/x.txt", ""),
     ("/w/x.js.d", ""),
     ("/w/..d", ""),
-    ("/w/x.a", "Not built yet"),
+    ("/w/x.a", ""),
     ("/w/x.b", "Not built yet"),
     ("/w/x.c", "Not built yet"),
-    ("/w/x.e", "Not built yet"),
-    ("/w/x.js", "Not built yet"),
-    ("/w/x.mjs", "Not built yet"),
-    ("/w/x.cjs", "Not built yet"),
+    ("/w/x.e", ""),
+    ("/w/x.js", ""),
+    ("/w/x.mjs", ""),
+    ("/w/x.cjs", ""),
     ("/w/x.json", "Not built yet"),
     ("/w/x", "No loader for /w/x"),
     ("/w/x.", "No loader for /w/x."),
@@ -137,7 +137,7 @@ const LOADED: [(&str, &str); 18] = [
     ("/w/y.d/x", "No loader for /w/y.d/x"),
 ];
 
-/// The message of the load of a file that is there, or none where it is copied.
+/// The message of the load of a file that is there, or none where it is copied or printed.
 fn told(alloc: Global, namespace: &str, path: &str) -> Result<Option<Message>, Memory> {
     let options = options(alloc)?;
     let mut table = Table::new(alloc);
@@ -185,8 +185,26 @@ fn loaders(rt: HostRuntime) -> Result<(), Fail> {
 
 #[test]
 fn files_of_messages(rt: HostRuntime) -> Result<(), Fail> {
-    assert!(rt; calls(rt.alloc(), "file", "/w/y/x.js", "y/x.js")?);
+    assert!(rt; calls(rt.alloc(), "file", "/w/y/x.json", "y/x.json")?);
     assert!(rt; calls(rt.alloc(), "file", "/v/x", "../v/x")?);
-    assert!(rt; calls(rt.alloc(), "env", "x.js", "env:x.js")?);
+    assert!(rt; calls(rt.alloc(), "env", "x.json", "env:x.json")?);
     Ok(())
+}
+
+#[test]
+fn stems(rt: HostRuntime) {
+    let rows = [
+        ("a.js", "a"),
+        ("a.b.mjs", "a.b"),
+        ("a.", "a"),
+        (".a", ".a"),
+        ("a", "a"),
+        ("", ""),
+        ("d.x/a", "d.x/a"),
+        ("d.x/.a", "d.x/.a"),
+        ("d.x/a.js", "d.x/a"),
+    ];
+    for (path, stem) in rows {
+        assert_eq!(rt; stem_of(path), stem);
+    }
 }

@@ -188,14 +188,14 @@ deliver-leaves s n t None lt is = by (has_too_many (opened (build_at s.builds n)
     by true = closes (standing s n).stays
     by false = adds t refl
 
-pub delivered-on_way : (s : State) (n worker : ℕ) (t : Task) (p : Product) → n < length s.builds → run (build_at s.builds n).options (build_at s.builds n).table t ≡ run_of.Done p
+pub delivered-on_way : (s : State) (n worker : ℕ) (t : Task) (p q : Product) → named q ≡ named p → n < length s.builds → run (build_at s.builds n).options (build_at s.builds n).table t ≡ run_of.Done q
     → (let u : State = all_moved s (opened_unless (standing s n) n (named p) (build_at s.builds n).outcome) in OnWay (build_at u.builds n) → OnWay (Steps.unclaimed (build_at u.builds n) worker t))
-delivered-on_way s n worker t p lt given h none =
+delivered-on_way s n worker t p q same lt given h none =
     let u : State = all_moved s (opened_unless (standing s n) n (named p) (build_at s.builds n).outcome) in
     let left = deliver-leaves s n (named p) (build_at s.builds n).outcome lt refl in
-    unclaimed-on_way (build_at u.builds n) worker t p
+    unclaimed-on_way (build_at u.builds n) worker t q
     (ap (λ (o : Options). run o (build_at u.builds n).table t) left.same_options ∙ ap (λ (q : List (Question × Answer)). run (build_at s.builds n).options q t) left.same_table ∙ given)
-    (left.leads none) (h none)
+    (λ v names. left.leads none v (sym same ∙ names)) (h none)
 
 pub released-on_way : (b : Building) (worker : ℕ) → IsSome b.outcome → OnWay (released b worker)
 released-on_way b worker h none = some_is_not b.outcome h none

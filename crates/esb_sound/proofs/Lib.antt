@@ -2,6 +2,7 @@ pub mod Builds
 pub mod Doing
 pub mod Finished
 pub mod Hands
+pub mod Likeness
 pub mod Links
 pub mod Outcomes
 pub mod Owed

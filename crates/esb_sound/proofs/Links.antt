@@ -21,11 +21,13 @@ use Rattle.esb_core.proofs.Claims.{claim-is, scan-is, both_parts}
 use Rattle.esb_core.proofs.Each.{each-set}
 use Rattle.esb_core.proofs.Readings.{Reads, begun_of}
 use Rattle.esb_core.proofs.Laws.{IsRead, reads-step, read-legal}
+use Rattle.esb_scan.specs.Likeness.{normal_product}
 use Rattle.esb_scan.specs.Run.{run}
 use Rattle.esb_scan.specs.Complete.{IsComplete}
 use Rattle.esb_sound.specs.Each.{Each-from}
 use Rattle.esb_sound.specs.Sound.{Sound, IsSound}
 use Rattle.esb_sound.proofs.Builds.{settle-settles}
+use Rattle.esb_sound.proofs.Likeness.{named-normal}
 use Rattle.esb_sound.proofs.Finished.{OnWay, task-claimed, link-claimed, write-claimed, delivered-on_way, released-on_way, moves-on_way, link-complete}
 
 -- each build is on its way
@@ -71,7 +73,7 @@ on_way-step s es (event.Deliver worker n t p) r h may sound =
     let u : State = all_moved s (moves s (event.Deliver worker n t p)) in
     let lt = ltb-true n (length s.builds) (both_parts (has_begun s n) (has_task (build_at s.builds n) worker t && product_fits t p) may).0 in
     let moved : AllOnWay u = moves-on_way s (moves s (event.Deliver worker n t p)) h in
-    changes u n (Steps.unclaimed (build_at u.builds n) worker t) (delivered-on_way s n worker t p lt (run_is s es r n t ∙ sound) (moved n)) moved
+    changes u n (Steps.unclaimed (build_at u.builds n) worker t) (delivered-on_way s n worker t p (normal_product p) (named-normal p) lt (run_is s es r n t ∙ sound.0) (moved n)) moved
 on_way-step s es (event.Settle worker n o) r h may sound =
     let t : State = all_moved s (moves s (event.Settle worker n o)) in
     let lt = ltb-true n (length s.builds) (both_parts (has_begun s n) (may_settle (build_at s.builds n) worker o) may).0 in

@@ -1,5 +1,5 @@
 -- A history in which each event is the one that comes next is the only one.
-use Rattle.std.proofs.Common.{◌≡◌, ◌+◌, Bool, true, false, cond, List, [], ◌∷◌, ◌++◌, length, slice_get, Option, Some, None, refl, sym, ap, subst, ◌∙◌, append_assoc, arith}
+use Rattle.std.proofs.Common.{◌≡◌, ◌+◌, Bool, true, false, cond, List, [], ◌∷◌, ◌++◌, length, map, slice_get, Option, Some, None, refl, sym, ap, subst, ◌∙◌, append_assoc, arith}
 use Rattle.std.specs.Prelude.{unwrap_or}
 use Rattle.std.proofs.lemmas.Bool.{false≢true}
 use Rattle.std.proofs.lemmas.List.Sums.{sum_by-append}
@@ -9,8 +9,10 @@ use Rattle.esb_core.specs.declared.event.Event.{Event}
 use Rattle.esb_core.specs.declared.event.Event.TheVariants as events
 use Rattle.esb_core.specs.History.{arrived}
 use Rattle.esb_sound.specs.Each.{Each, Each-from}
+use Rattle.esb_sound.specs.Likeness.{normal_event}
 use Rattle.esb_sound.specs.Sent.{arrivals}
 use Rattle.esb_sound.specs.Serial.{Arrives, Follows, InTurn, IsInTurn, IsSerial, is_end, is_lapse, lapses, next}
+use Rattle.esb_sound.proofs.Likeness.{alike-next, map-append}
 
 list_end : {X : Type 0} (xs : List X) → xs ++ [] ≡ xs
 list_end [] = refl
@@ -19,9 +21,19 @@ list_end (x ∷ xs) = ap (λ ys. x ∷ ys) (list_end xs)
 same-some : {X : Type 0} (x y : X) (o : Option X) → o ≡ Some x → o ≡ Some y → x ≡ y
 same-some x y o e f = ap (λ p. unwrap_or p x) (sym e ∙ f)
 
+end-normal : (e : Event) → is_end (normal_event e) ≡ is_end e
+end-normal (events.Arrive packet) = refl
+end-normal events.EndOfInput = refl
+end-normal (events.Claim role job) = refl
+end-normal (events.Record worker n question answer) = refl
+end-normal (events.Deliver worker n task product) = refl
+end-normal (events.Settle worker n outcome) = refl
+end-normal (events.Written worker n failures) = refl
+end-normal events.Pop = refl
+
 module _ (world : List Folder) (packets : List Packet) where
   no-end : (before : List Event) (f : Event) → next world packets before ≡ Some events.EndOfInput → Follows world packets before f → ⊥
-  no-end before f last h = false≢true (sym h.1 ∙ ap is_end (sym (same-some events.EndOfInput f (next world packets before) last h.0)))
+  no-end before f last h = false≢true (sym h.1 ∙ sym (end-normal f) ∙ ap is_end (sym (same-some events.EndOfInput (normal_event f) (next world packets before) last h.0)))
 
   at-end : (before : List Event) → next world packets (before ++ []) ≡ Some events.EndOfInput → next world packets before ≡ Some events.EndOfInput
   at-end before e = ap (λ (es : List Event). next world packets es) (sym (list_end before)) ∙ e
@@ -29,20 +41,24 @@ module _ (world : List Folder) (packets : List Packet) where
   along : (before : List Event) (e : Event) (es : List Event) → next world packets (before ++ e ∷ es) ≡ Some events.EndOfInput → next world packets ((before ++ e ∷ []) ++ es) ≡ Some events.EndOfInput
   along before e es h = ap (λ (ds : List Event). next world packets ds) (append_assoc before (e ∷ []) es) ∙ h
 
-  same-steps : (before es fs : List Event) → Each-from (Follows world packets) before es → Each-from (Follows world packets) before fs
-      → next world packets (before ++ es) ≡ Some events.EndOfInput → next world packets (before ++ fs) ≡ Some events.EndOfInput → es ≡ fs
-  same-steps before [] [] h k last last' = refl
-  same-steps before [] (f ∷ fs) h k last last' = absurd (no-end before f (at-end before last) k.0)
-  same-steps before (e ∷ es) [] h k last last' = absurd (no-end before e (at-end before last') h.0)
-  same-steps before (e ∷ es) (f ∷ fs) h k last last' =
-      let same : e ≡ f = same-some e f (next world packets before) h.0.0 k.0.0 in
-      let k' : Each-from (Follows world packets) (before ++ e ∷ []) fs = subst (λ (x : Event). Each-from (Follows world packets) (before ++ x ∷ []) fs) (sym same) k.1 in
-      let end' : next world packets ((before ++ e ∷ []) ++ fs) ≡ Some events.EndOfInput =
-      subst (λ (x : Event). next world packets ((before ++ x ∷ []) ++ fs) ≡ Some events.EndOfInput) (sym same) (along before f fs last') in
-      ap (λ (x : Event). x ∷ es) same ∙ ap (λ (xs : List Event). f ∷ xs) (same-steps (before ++ e ∷ []) es fs h.1 k' (along before e es last) end')
+  same-steps : (before before' es fs : List Event) → map normal_event before ≡ map normal_event before' → Each-from (Follows world packets) before es → Each-from (Follows world packets) before' fs
+      → next world packets (before ++ es) ≡ Some events.EndOfInput → next world packets (before' ++ fs) ≡ Some events.EndOfInput → map normal_event es ≡ map normal_event fs
+  same-steps before before' [] [] alike h k last last' = refl
+  same-steps before before' [] (f ∷ fs) alike h k last last' = absurd (no-end before' f (sym (alike-next world packets before before' alike) ∙ at-end before last) k.0)
+  same-steps before before' (e ∷ es) [] alike h k last last' = absurd (no-end before e (alike-next world packets before before' alike ∙ at-end before' last') h.0)
+  same-steps before before' (e ∷ es) (f ∷ fs) alike h k last last' =
+      let same : normal_event e ≡ normal_event f = same-some (normal_event e) (normal_event f) (next world packets before) h.0.0 (alike-next world packets before before' alike ∙ k.0.0) in
+      let longer : map normal_event (before ++ e ∷ []) ≡ map normal_event (before' ++ f ∷ []) = map-append normal_event before (e ∷ []) ∙ (λ i. alike i ++ same i ∷ []) ∙ sym (map-append normal_event before' (f ∷ [])) in
+      let rest = same-steps (before ++ e ∷ []) (before' ++ f ∷ []) es fs longer h.1 k.1 (along before e es last) (along before' f fs last') in
+      λ i. same i ∷ rest i
 
-  pub one_history : (one other : List Event) → IsSerial world packets one → IsSerial world packets other → one ≡ other
-  one_history one other h k = h.whole ∙ ap (λ (es : List Event). es ++ events.EndOfInput ∷ []) (same-steps [] h.before k.before h.steps k.steps h.last k.last) ∙ sym k.whole
+  pub one_history : (one other : List Event) → IsSerial world packets one → IsSerial world packets other → map normal_event one ≡ map normal_event other
+  one_history one other h k =
+      ap (map normal_event) h.whole
+      ∙ map-append normal_event h.before (events.EndOfInput ∷ [])
+      ∙ ap (λ (es : List Event). es ++ events.EndOfInput ∷ []) (same-steps [] [] h.before k.before refl h.steps k.steps h.last k.last)
+      ∙ sym (map-append normal_event k.before (events.EndOfInput ∷ []))
+      ∙ sym (ap (map normal_event) k.whole)
 
 -- ---- histories without lapses
 

@@ -1,4 +1,5 @@
 pub mod Each
+pub mod Likeness
 pub mod Sound
 pub mod Sent
 pub mod Told

@@ -1,4 +1,4 @@
--- The one history that a world and the packets of an input give on one thread: what is owed is sent first, then the first open job is claimed and done whole, and else the next packet is read.
+-- The one history that a world and the packets of an input give on one thread, but for the places of syntax errors: what is owed is sent first, then the first open job is claimed and done whole, and else the next packet is read.
 use Rattle.std.specs.Prelude.{◌≡◌, ◌⊎◌, ℕ, Bool, true, false, List, [], ◌∷◌, ◌++◌, length, fold, count_by, slice_get, Option, Some, None, Result, Ok, Err}
 use Rattle.esb_base.specs.World.{Folder}
 use Rattle.esb_wire.specs.declared.value.Packet.{Packet}
@@ -22,6 +22,7 @@ use Rattle.esb_scan.specs.declared.run.Run.TheVariants as runs
 use Rattle.esb_scan.specs.Run.{run}
 use Rattle.esb_link.specs.SerialLink.{serial_link}
 use Rattle.esb_sound.specs.Each.{Each}
+use Rattle.esb_sound.specs.Likeness.{normal_event}
 use Rattle.esb_sound.specs.Sent.{arrivals}
 use Rattle.esb_sound.specs.Told.{is_fault, told}
 
@@ -100,7 +101,7 @@ abbrev pub step_by : List Folder → List Packet → List Event → Option Job �
 step_by world packets before (Some job) = work_step world before job
 step_by world packets before None = Some (free_step packets before)
 
--- the event that comes after these
+-- the event that comes after these, without the places of syntax errors
 abbrev pub next : List Folder → List Packet → List Event → Option Event
 next world packets before = step_by world packets before (doing before)
 
@@ -112,7 +113,7 @@ is_end e = false
 
 -- an event before the end
 abbrev pub Follows : List Folder → List Packet → List Event → Event → Type 0
-Follows world packets before e = (next world packets before ≡ Some e) × (is_end e ≡ false)
+Follows world packets before e = (next world packets before ≡ Some (normal_event e)) × (is_end e ≡ false)
 
 -- Each event is the one that comes next, up to the end of the input, which is the last.
 pub record IsSerial (world : List Folder) (packets : List Packet) (journal : List Event) : Type 0 where
@@ -165,7 +166,7 @@ Handles before events.Pop = Unit {0}
 pub record IsInTurn (tells : Type 0) (world : List Folder) (before : List Event) (e : Event) : Type 0 where
   pub goes_on : is_end e ≡ false
   pub handles : Handles before e
-  pub follows : tells → is_lapse e ≡ false → (packets : List Packet) → Arrives packets before e → next world packets before ≡ Some e
+  pub follows : tells → is_lapse e ≡ false → (packets : List Packet) → Arrives packets before e → next world packets before ≡ Some (normal_event e)
 
 abbrev pub InTurn : Type 0 → List Folder → List Event → Type 0
 InTurn tells world list = Each (IsInTurn tells world) list

@@ -1,6 +1,6 @@
 //! Laws over every list of events. Each function's contract is the law, and its body does nothing.
 
-ghost use Rattle.std.specs.Prelude.{◌≡◌, ◌<◌, ◌^◌, ℕ, List, true, Some, None, IsSome, length, slice_get};
+ghost use Rattle.std.specs.Prelude.{◌≡◌, ◌<◌, ◌^◌, ℕ, List, true, Some, None, IsSome, length, map, slice_get};
 ghost use Rattle.esb_base.specs.World.{Folder};
 ghost use Rattle.esb_wire.specs.declared.value.Packet.{Packet};
 ghost use Rattle.esb_core.specs.declared.event.Event.{Event};
@@ -15,6 +15,8 @@ ghost use Rattle.esb_ask.specs.declared.outcome.Outcome.{Outcome};
 ghost use Rattle.esb_core.specs.Sizes.{too_large};
 ghost use Rattle.esb_sound.specs.Each.{Each};
 ghost use Rattle.esb_sound.specs.Ends.{EndsRight, IsOvergrown};
+ghost use Rattle.esb_sound.specs.Files.{fate};
+ghost use Rattle.esb_sound.specs.Likeness.{normal_event};
 ghost use Rattle.esb_sound.specs.Serial.{doing, Handles, IsSerial};
 ghost use Rattle.esb_sound.specs.Sound.{Sound};
 ghost use Rattle.esb_sound.specs.Ready.{IsReady};
@@ -32,10 +34,12 @@ pub fn replies_are_ready()
         → slice_get (replay events).owed 0 ≡ Some out → IsReady (replay events).builds out }
 {}
 
-/// A world and the packets of an input have one history on one thread. So what is sent is a function of the packets and the
-/// folders.
+/// A world and the packets of an input have one history on one thread, but for the places of syntax errors. So what is sent is a
+/// function of the packets and the folders but for those, and the files are without exception.
 pub fn serial_histories_are_one()
-    ensures { (world : List Folder) (packets : List Packet) (one other : List Event) → IsSerial world packets one → IsSerial world packets other → one ≡ other }
+    ensures history { (world : List Folder) (packets : List Packet) (one other : List Event) → IsSerial world packets one
+        → IsSerial world packets other → map normal_event one ≡ map normal_event other }
+    ensures files { (one other : List Event) (path : List ℕ) → map normal_event one ≡ map normal_event other → fate path one ≡ fate path other }
 {}
 
 /// With one worker, which takes one job at a time, each build is settled and closed where no job is in hand and none is open.

@@ -26,6 +26,7 @@ use Rattle.esb_core.proofs.Work.{open-is}
 use Rattle.esb_core.specs.Work.{open_job}
 use Rattle.esb_scan.specs.declared.run.Run.{Run}
 use Rattle.esb_scan.specs.declared.run.Run.TheVariants as runs
+use Rattle.esb_scan.specs.Likeness.{normal_outcome, normal_product}
 use Rattle.esb_scan.specs.Run.{run}
 use Rattle.esb_link.specs.SerialLink.{serial_link}
 use Rattle.esb_sound.specs.Sent.{arrivals}
@@ -118,14 +119,14 @@ module _ (tells : Type 0) (world : List Folder) (es : List Event) where
         next-with packets (Some (job.Scan n t)) is ∙ ap (λ (r : Run). scan_step world n t r) asks ∙ ap (λ (b : Answer). Some (event.Record 0 n q b)) (answer-is n q a lapse (from told_it));
   }
 
-  pub deliver-in_turn : (n : ℕ) (t : Task) (p : Product) → doing es ≡ Some (job.Scan n t) → run (build es n).options (table es n) t ≡ runs.Done p → IsInTurn tells world es (event.Deliver 0 n t p)
+  pub deliver-in_turn : (n : ℕ) (t : Task) (p : Product) → doing es ≡ Some (job.Scan n t) → run (build es n).options (table es n) t ≡ runs.Done (normal_product p) → IsInTurn tells world es (event.Deliver 0 n t p)
   deliver-in_turn n t p is done = record {
     goes_on = refl;
     handles = (refl, is);
     follows = λ told_it lapse packets arrives. next-with packets (Some (job.Scan n t)) is ∙ ap (λ (r : Run). scan_step world n t r) done;
   }
 
-  linked-is : (options : Options) (answers : List (Question × Answer)) (o : Outcome) → is_refusal o ≡ false → IsLinked options answers o → linked (serial_link options answers) ≡ o
+  linked-is : (options : Options) (answers : List (Question × Answer)) (o : Outcome) → is_refusal o ≡ false → IsLinked options answers o → linked (serial_link options answers) ≡ normal_outcome o
   linked-is options answers (outcomes.Files files) sane right = ap linked right.1
   linked-is options answers (outcomes.Errors messages) sane right = ap linked right.1
   linked-is options answers outcomes.Canceled sane right = absurd right

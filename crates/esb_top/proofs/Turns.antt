@@ -13,6 +13,7 @@ use Rattle.esb_core.specs.State.{State}
 use Rattle.esb_core.specs.Steps.{after, moves}
 use Rattle.esb_core.specs.History.{replay}
 use Rattle.esb_sound.specs.Each.{Each-from}
+use Rattle.esb_sound.specs.Likeness.{normal_event}
 use Rattle.esb_sound.specs.Serial.{InTurn, IsInTurn, next}
 use Rattle.esb_sound.specs.Sound.{IsSound}
 use Rattle.esb_sound.specs.Sent.{arrivals, sent, sent_packets}
@@ -93,7 +94,7 @@ in-world tells world other same before (e ∷ es) all = (
   record {
     goes_on = all.0.goes_on;
     handles = all.0.handles;
-    follows = λ t lapse packets arrives. subst (λ (w : List Folder). next w packets before ≡ Some e) (same t) (all.0.follows t lapse packets arrives);
+    follows = λ t lapse packets arrives. subst (λ (w : List Folder). next w packets before ≡ Some (normal_event e)) (same t) (all.0.follows t lapse packets arrives);
   },
   in-world tells world other same (before ++ e ∷ []) es all.1,
 )

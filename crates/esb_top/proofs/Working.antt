@@ -12,8 +12,10 @@ use Rattle.esb_ask.specs.declared.question.Question.{Question}
 use Rattle.esb_ask.specs.declared.answer.Answer.{Answer}
 use Rattle.esb_ask.specs.declared.answer.Answer.TheVariants as answers
 use Rattle.esb_ask.specs.declared.task.Task.{Task}
+use Rattle.esb_ask.specs.declared.task.Task.TheVariants as task
 use Rattle.esb_ask.specs.declared.outcome.Outcome.{Outcome}
 use Rattle.esb_ask.specs.declared.product.Product.{Product}
+use Rattle.esb_ask.specs.declared.product.Product.TheVariants as product
 use Rattle.esb_ask.specs.declared.outcome.Outcome.TheVariants as outcomes
 use Rattle.esb_ask.specs.Tasks.{same_task, product_fits}
 use Rattle.esb_ask.proofs.SameTask.{same_task-refl}
@@ -35,6 +37,7 @@ use Rattle.esb_core.proofs.Readings.{begun_of, build-read}
 use Rattle.esb_core.proofs.Held.{held}
 use Rattle.esb_core.proofs.Laws.{reads-legal}
 use Rattle.esb_scan.specs.declared.run.Run.TheVariants as runs
+use Rattle.esb_scan.specs.Likeness.{normal_product}
 use Rattle.esb_scan.specs.Run.{run, trail}
 use Rattle.esb_scan.proofs.Runs.{asks_new, run_fits}
 use Rattle.esb_sound.specs.Serial.{IsInTurn, doing, doing_after, in_hand}
@@ -42,7 +45,7 @@ use Rattle.esb_ask.specs.declared.outcome.Failures.{Failures}
 use Rattle.esb_ask.specs.declared.outcome.Failures.TheVariants as failures
 use Rattle.esb_ask.specs.declared.outcome.OutFile.{OutFile}
 use Rattle.esb_sound.proofs.Doing.{doing-hand, writes}
-use Rattle.esb_sound.specs.Sound.{IsLinked}
+use Rattle.esb_sound.specs.Sound.{IsGiven, IsLinked}
 use Rattle.esb_sound.specs.Files.{ArePut, is_failed, listed}
 use Rattle.esb_sound.specs.Told.{RoseBy, is_fault}
 use Rattle.esb_top.specs.Entries.{Entries, Added, AddedWithin, Kept}
@@ -174,13 +177,13 @@ asked-step tells world fo fn old new n q t options large legal go asks got le =
 -- ---- the end of a claim
 
 pub delivered-step : (tells : Type 0) (world : List Folder) (f : ℕ) (old : Entries) (new : List Event) (n : ℕ) (t : Task) (p : Product) (options : Options) → is_legal old.events ≡ true
-    → (build_at (replay old.events).builds n).options ≡ options → run options (build_at (replay old.events).builds n).table t ≡ runs.Done p → doing old.events ≡ Some (job.Scan n t)
+    → (build_at (replay old.events).builds n).options ≡ options → IsGiven options (build_at (replay old.events).builds n).table t p → doing old.events ≡ Some (job.Scan n t)
     → new ≡ old.events ++ event.Deliver 0 n t p ∷ [] → Worked tells world f f old.events new
 delivered-step tells world f old new n t p options legal same given in_hand is =
-    let done_now : run (build old.events n).options (table old.events n) t ≡ runs.Done p =
-    ap (λ (o : Options). run o (table old.events n) t) (options-are old.events n legal ∙ same) ∙ ap (λ (tb : List (Question × Answer)). run options tb t) (table-is old.events n legal) ∙ given in
+    let done_now : IsGiven (build old.events n).options (table old.events n) t p =
+    subst (λ (o : Options). IsGiven o (table old.events n) t p) (sym (options-are old.events n legal ∙ same)) (subst (λ (tb : List (Question × Answer)). IsGiven options tb t p) (sym (table-is old.events n legal)) given) in
     worked-push tells world f f old.events new (event.Deliver 0 n t p) is (record { none_arrived = refl; none_sent = λ g. refl; goes_on = λ s. all_moved-ended s (moves s (event.Deliver 0 n t p)) })
-    (λ h. done_now) (λ h. tt) (deliver-in_turn tells world old.events n t p in_hand done_now) (λ e. absurd (false≢true e)) (omega arith)
+    (λ h. done_now) (λ h. tt) (deliver-in_turn tells world old.events n t p in_hand done_now.0) (λ e. absurd (false≢true e)) (omega arith)
 
 pub settled-step : (tells : Type 0) (world : List Folder) (f : ℕ) (old : Entries) (new : List Event) (n : ℕ) (o : Outcome) → is_legal old.events ≡ true
     → IsLinked (build_at (replay old.events).builds n).options (build_at (replay old.events).builds n).table o
@@ -196,9 +199,15 @@ pub given_up-step : (tells : Type 0) (world : List Folder) (f : ℕ) (old : Entr
     → Worked tells world f f old.events new
 given_up-step tells world f old new n t legal in_hand is = settled-step tells world f old new n outcomes.Memory legal tt (λ r. refusal-in_turn tells world old.events n (inr (t, in_hand))) is
 
-pub may-deliver : (s : State) (n : ℕ) (t : Task) (p : Product) (options : Options) (answers : List (Question × Answer)) → AtWork s n t → run options answers t ≡ runs.Done p → allowed s (event.Deliver 0 n t p) ≡ true
+fits-normal : (t : Task) (p : Product) → product_fits t (normal_product p) ≡ true → product_fits t p ≡ true
+fits-normal (task.Entry number) (product.Entry where_to) e = e
+fits-normal (task.Entry number) (product.Load loading) e = e
+fits-normal (task.Load name) (product.Entry where_to) e = e
+fits-normal (task.Load name) (product.Load loading) e = e
+
+pub may-deliver : (s : State) (n : ℕ) (t : Task) (p : Product) (options : Options) (answers : List (Question × Answer)) → AtWork s n t → IsGiven options answers t p → allowed s (event.Deliver 0 n t p) ≡ true
 may-deliver s n t p options answers at given =
-    both (has_begun s n) (has_task (build_at s.builds n) 0 t && product_fits t p) (begun-is s n at.begun) (both (has_task (build_at s.builds n) 0 t) (product_fits t p) at.claimed (run_fits options answers t p given))
+    both (has_begun s n) (has_task (build_at s.builds n) 0 t && product_fits t p) (begun-is s n at.begun) (both (has_task (build_at s.builds n) 0 t) (product_fits t p) at.claimed (fits-normal t p (run_fits options answers t (normal_product p) given.0)))
 
 any-weaker : (claims : List (ℕ × Task)) (t : Task) → list_any (is_claim 0 t) claims ≡ true → list_any (λ claim. nat_eq claim.0 0) claims ≡ true
 any-weaker [] t e = absurd (false≢true e)

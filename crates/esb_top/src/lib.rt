@@ -13,4 +13,6 @@ pub use run::{Session, run_serial};
 pub use words::{BadWord, Words, read_words};
 
 #[cfg(test)]
+mod printed_tests;
+#[cfg(test)]
 mod tests;

@@ -7,12 +7,10 @@ ghost use Rattle.esb_core.specs.Allowed.{first_job, may_fail};
 ghost use Rattle.esb_core.specs.declared.event.Event.{Event};
 ghost use Rattle.esb_core.specs.History.{is_legal, replay};
 ghost use Rattle.esb_core.specs.State.{build_at};
-ghost use Rattle.esb_scan.specs.declared.run.Run.TheVariants as runs;
-ghost use Rattle.esb_scan.specs.Run.{run};
 ghost use Rattle.esb_scan.specs.Complete.{IsComplete};
 ghost use Rattle.esb_sound.specs.Files.{ArePut, is_failed, listed};
 ghost use Rattle.esb_sound.specs.Serial.{doing};
-ghost use Rattle.esb_sound.specs.Sound.{IsLinked, Sound};
+ghost use Rattle.esb_sound.specs.Sound.{IsGiven, IsLinked, Sound};
 ghost use Rattle.esb_sound.specs.Told.{RoseBy, told};
 ghost use Rattle.esb_top.specs.Entries.{Kept};
 ghost use Rattle.esb_top.specs.Puts.{Puts};
@@ -91,7 +89,7 @@ fn product_of<H: Host>(
     requires going { IsGoing history.old.events build task.now options.now }
     ensures over { IfOk result (λ product. product ≡ None → IsFree history.new.events) }
     ensures going { IfOk result (λ product. IfSome product (λ p. IsGoing history.new.events build task.now options.now)) }
-    ensures product { IfOk result (λ product. IfSome product (λ p. run options.now (build_at (replay history.new.events).builds build).table task.now ≡ runs.Done p)) }
+    ensures product { IfOk result (λ product. IfSome product (IsGiven options.now (build_at (replay history.new.events).builds build).table task.now)) }
     ensures err { OnErr result (IsGoing history.new.events build task.now options.now) }
     ensures worked { Worked H.tells (H.world host.old) (H.faults host.old) (H.faults host.new) history.old.events history.new.events }
     ensures room { history.old.promised ≤ history.new.promised }

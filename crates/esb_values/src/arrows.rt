@@ -3,7 +3,7 @@
 ghost use Rattle.std.specs.Prelude.{◌≡◌, ◌≤◌, ◌+◌, IfOk, max, nat_lt, true, false};
 ghost use Rattle.esb_token.specs.declared.goal.Goal.TheVariants as goal;
 ghost use Rattle.esb_reader.specs.Reader.{Gives, choose, fail, node, pure};
-ghost use Rattle.esb_reader.specs.Parts.{both, token_in};
+ghost use Rattle.esb_reader.specs.Parts.{behind, both, token_in};
 ghost use Rattle.esb_inner.specs.Inner.{ReadsExpressions};
 ghost use Rattle.esb_value_laws.specs.Arrows as spec;
 ghost use Rattle.esb_values.specs.Handed.{ReadsBlocks, body_of};
@@ -13,7 +13,6 @@ use crate::bodies::Arrows;
 use crate::kinds::{is_arrow_on_line, is_left_parenthesis, is_name_on_line, refers};
 use crate::parts::Blocks;
 use crate::words::is_async;
-use crate::yields::second;
 use esb_base::{List, Memory, Text};
 use esb_grammar::Context;
 use esb_inner::Readers;
@@ -23,30 +22,34 @@ use esb_token::{Goal, Token};
 use esb_tree::{Block, ConciseBody, Expression, Statement};
 use std::alloc::Global;
 
-/// `async`, a name and `=>` on one line.
+/// `async`, a name and `=>` on one line. The first of them was looked at already.
 #[tactic(auto, unfolding(esb_value_laws::specs::Arrows::at_async_name))]
-pub fn at_async_name(text: &Text, at: usize) -> bool
+pub fn at_async_name(text: &Text, first: Token, at: usize) -> bool
+    requires known { first ≡ behind text.now at }
     ensures { result ≡ spec.at_async_name text.now at }
 {
-    let behind = second(text, at);
-    is_async(text, peek(text, Goal::Div, at))
-        && is_name_on_line(behind)
-        && is_arrow_on_line(peek(text, Goal::Div, behind.end))
+    if !is_async(text, first) {
+        return false;
+    }
+    let name = peek(text, Goal::Div, first.end);
+    is_name_on_line(name) && is_arrow_on_line(peek(text, Goal::Div, name.end))
 }
 
-/// `async` and `(`.
-pub fn at_async_list(text: &Text, at: usize) -> bool
+/// `async` and `(`. The first of them was looked at already.
+pub fn at_async_list(text: &Text, first: Token, at: usize) -> bool
+    requires known { first ≡ behind text.now at }
     ensures { result ≡ lists.at_async_list text.now at }
 {
-    is_async(text, peek(text, Goal::Div, at)) && is_left_parenthesis(second(text, at).kind)
+    is_async(text, first) && is_left_parenthesis(peek(text, Goal::Div, first.end).kind)
 }
 
-/// A name and `=>` on its line.
+/// A name and `=>` on its line. The name was looked at already.
 #[tactic(auto, unfolding(esb_value_laws::specs::Arrows::at_name))]
-pub fn at_name(text: &Text, context: Context, at: usize) -> bool
+pub fn at_name(text: &Text, context: Context, first: Token, at: usize) -> bool
+    requires known { first ≡ behind text.now at }
     ensures { result ≡ spec.at_name text.now context at }
 {
-    refers(context, peek(text, Goal::Div, at)) && is_arrow_on_line(second(text, at))
+    refers(context, first) && is_arrow_on_line(peek(text, Goal::Div, first.end))
 }
 
 /// A name as the head of an arrow function.

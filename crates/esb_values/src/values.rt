@@ -269,16 +269,16 @@ impl<
         if is_yield(context, token) {
             return yielded(parser, context, levels, at);
         }
-        if at_async_name(parser.text, at) {
+        if at_async_name(parser.text, token, at) {
             return arrows.async_arrow(context, levels, at);
         }
-        if at_name(parser.text, context, at) {
+        if at_name(parser.text, context, token, at) {
             return arrows.name_arrow(context, levels, at);
         }
         if is_left_parenthesis(token.kind) {
             return self.listed(context, levels, at);
         }
-        if at_async_list(parser.text, at) {
+        if at_async_list(parser.text, token, at) {
             return self.async_listed(context, levels, at);
         }
         assigned(self.operators, parser, context, levels, at)

@@ -19,7 +19,7 @@ use esb_tree::{Expression, Statement};
 use std::alloc::Global;
 
 /// The token behind the next one.
-pub fn second(text: &Text, at: usize) -> Token
+fn second(text: &Text, at: usize) -> Token
     ensures { result ≡ forks.second text.now at }
 {
     let first = peek(text, Goal::Div, at);

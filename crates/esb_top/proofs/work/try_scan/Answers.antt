@@ -7,8 +7,7 @@ use Rattle.esb_ask.specs.declared.product.Product.{Product}
 use Rattle.esb_core.specs.declared.event.Event.TheVariants as event
 use Rattle.esb_core.specs.State.{build_at}
 use Rattle.esb_core.specs.History.{is_legal, replay}
-use Rattle.esb_scan.specs.declared.run.Run.TheVariants as runs
-use Rattle.esb_scan.specs.Run.{run}
+use Rattle.esb_sound.specs.Sound.{IsGiven}
 use Rattle.esb_top.specs.Entries.{Entries, AddedWithin}
 use Rattle.esb_top.specs.Work.{IsGoing, Worked}
 use Rattle.esb_top.proofs.Histories.{worked-trans}
@@ -18,7 +17,7 @@ use Rattle.std.proofs.Common.{ℕ}
 
 -- the work up to a product, and its delivery, which may be refused
 and_delivered : (tells : Type 0) (world : List Folder) (a b : ℕ) (es : Entries) (mid new : Entries) (n : ℕ) (t : Task) (p : Product) (options : Options) (result : Result (Unit {0}) Memory) → Worked tells world a b es.events mid.events
-    → is_legal mid.events ≡ true → IsGoing mid.events n t options → run options (build_at (replay mid.events).builds n).table t ≡ runs.Done p
+    → is_legal mid.events ≡ true → IsGoing mid.events n t options → IsGiven options (build_at (replay mid.events).builds n).table t p
     → OnOk result (AddedWithin mid new (event.Deliver 0 n t p)) → OnErr result (new ≡ mid) → Worked tells world a b es.events new.events
 and_delivered tells world a b es mid new n t p options (Ok u) w legal go given added kept =
     worked-trans tells world a b b es.events mid.events new.events w (delivered-step tells world b mid new.events n t p options legal go.same_options given go.in_hand added.events)

@@ -1,12 +1,13 @@
-use Rattle.std.proofs.Common.{◌≡◌, ℕ, suc, true, Some, subst, rules, arith}
+use Rattle.std.proofs.Common.{◌≡◌, ℕ, suc, true, false, Some, subst, rules, arith}
 use Rattle.std.proofs.lemmas.Grind.{common_steps}
 use Rattle.std.proofs.lemmas.Result.{err_from_is_err_and}
 use Rattle.esb_reader.specs.Reader.{node, pure, repeated}
-use Rattle.esb_expression_laws.specs.Operators.{operand}
+use Rattle.esb_reader.specs.Parts.{behind}
+use Rattle.esb_expression_laws.specs.Operators.{is_operator, operand}
 use Rattle.esb_operator_laws.specs.Unary.{unary}
 use Rattle.esb_operator_laws.specs.Ladder.{at_operator, ladder, binary}
 use Rattle.esb_expressions.proofs.Steps.{one_more}
-use Rattle.esb_expressions.proofs.Behind.{first_fails, first_gives, level_fails, level_goes, step_gives}
+use Rattle.esb_expressions.proofs.Behind.{first_fails, first_gives, level_fails, step_gives, step_skips}
 use Rattle.esb_expressions.proofs.operators.Operators.+binary.Goals as goal
 
 pub items-returns-then-not-at_operator : goal.items-returns-then-not-at_operator
@@ -43,25 +44,28 @@ level_behind-returns g t c =
     let whole = rw c.in_ok-first.ensures.read at c.joined.ensures in
     step_gives text c.args.levels c.args.context (unary text c.args.context (g.R.Readers.left c.args.context text) c.args.levels) _ c.args.tight c.args.at c.args.first c.in_ok-first.rest c.in_ok-first.at behind whole
 
-pub ladder_behind-returns-in_err-next : goal.ladder_behind-returns-in_err-next
-ladder_behind-returns-in_err-next g t c =
+pub level_behind-returns-then-not-is_operator : goal.level_behind-returns-then-not-is_operator
+level_behind-returns-then-not-is_operator g t c =
+    let text = c.args.self.now.text.now in
+    let known = c.requires.known in
+    let told = c.is_operator.ensures in
+    let refused = c.if-not-is_operator.true in
+    let not_there : is_operator c.args.context (suc c.args.tight) (behind text c.args.at) ≡ false = first_of (cc, grind (arith, common_steps)) in
+    step_skips text c.args.levels c.args.context (unary text c.args.context (g.R.Readers.left c.args.context text) c.args.levels) c.fitting.result c.args.tight c.args.at c.args.first not_there c.fitting.ensures
+
+pub ladder_behind-returns-in_err-y : goal.ladder_behind-returns-in_err-y
+ladder_behind-returns-in_err-y g t c =
     let l = c.loop-tight in
     let text = c.args.self.now.text.now in
     let p = err_from_is_err_and c.from_residual.result c.from_residual.ensures.1 in
-    rw (p.1, p.2) (level_fails text c.args.levels c.args.context (unary text c.args.context (g.R.Readers.left c.args.context text) c.args.levels) _ (pure c.args.first) l.tight c.args.level c.args.start l.x l.at c.loop-tight-test.true l.invariant c.in_err-next.ensures)
-
-pub ladder_behind-loop-tight-preserved : goal.ladder_behind-loop-tight-preserved
-ladder_behind-loop-tight-preserved g t c =
-    let l = c.loop-tight in
-    let text = c.args.self.now.text.now in
-    level_goes text c.args.levels c.args.context (unary text c.args.context (g.R.Readers.left c.args.context text) c.args.levels) (pure c.args.first) l.tight c.args.start l.x l.at _ _ l.invariant c.in_ok-next.ensures
+    rw (p.1, p.2) (level_fails text c.args.levels c.args.context (unary text c.args.context (g.R.Readers.left c.args.context text) c.args.levels) _ (pure c.args.first) l.tight c.args.level c.args.start l.x l.at c.loop-tight-test.true l.invariant.0 c.in_err-y.ensures)
 
 pub ladder_behind-returns : goal.ladder_behind-returns
 ladder_behind-returns g t c =
     let l = c.loop-tight in
     let text = c.args.self.now.text.now in
     let same : l.tight ≡ c.args.level = omega arith in
-    subst (λ (k : ℕ). ladder text c.args.levels c.args.context (unary text c.args.context (g.R.Readers.left c.args.context text) c.args.levels) (pure c.args.first) k c.args.start ≡ Some (l.x, l.at)) same l.invariant
+    subst (λ (k : ℕ). ladder text c.args.levels c.args.context (unary text c.args.context (g.R.Readers.left c.args.context text) c.args.levels) (pure c.args.first) k c.args.start ≡ Some (l.x, l.at)) same l.invariant.0
 
 pub binary-returns-in_err-first : goal.binary-returns-in_err-first
 binary-returns-in_err-first g t c =

@@ -1,5 +1,6 @@
 use Rattle.std.proofs.Common.{◌≡◌, ◌-◌, ◌+◌, ◌*◌, suc, length, Some}
 use Rattle.esb_reader.specs.Reader.{node, pure, repeated}
+use Rattle.esb_reader.specs.Parts.{behind}
 use Rattle.esb_expression_laws.specs.Operators.{operand}
 use Rattle.esb_operator_laws.specs.Unary.{unary}
 use Rattle.esb_operator_laws.specs.Ladder.{at_operator, items, ladder, binary}
@@ -29,4 +30,4 @@ invariant-items-loop-turn g l =
 abbrev pub invariant-ladder_behind-loop-tight : goal.invariant-ladder_behind-loop-tight
 invariant-ladder_behind-loop-tight g l =
     let text = l.self.text.now in
-    ladder text l.levels l.context (unary text l.context (g.R.Readers.left l.context text) l.levels) (pure l.fn.first) l.tight l.start ≡ Some (l.x, l.at)
+    ladder text l.levels l.context (unary text l.context (g.R.Readers.left l.context text) l.levels) (pure l.fn.first) l.tight l.start ≡ Some (l.x, l.at) × (l.next ≡ behind text l.at)

@@ -1,0 +1,5 @@
+// printed
+a = b / c / d
+f(/x/g)
+g = () => {}
+/x/.test(h)

@@ -1,0 +1,13 @@
+pub use Rattle.esb_names.specs.Names
+pub use Rattle.esb_names.specs.Keys
+pub use Rattle.esb_early_checks.specs.Settings
+pub use Rattle.esb_early_checks.specs.Findings
+pub use Rattle.esb_early_checks.specs.Labels
+pub use Rattle.esb_early_checks.specs.Roles
+pub use Rattle.esb_early_checks.specs.Shapes
+pub use Rattle.esb_early_checks.specs.Tests
+pub mod Directives
+pub mod Parameters
+pub mod Rules
+pub mod Gathered
+pub mod Items

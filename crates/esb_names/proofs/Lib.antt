@@ -1,0 +1,2 @@
+pub mod PointSteps
+pub mod StringSteps

@@ -1,0 +1,3 @@
+pub mod Names
+pub mod Strings
+pub mod Keys

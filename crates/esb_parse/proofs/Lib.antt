@@ -1,0 +1,5 @@
+pub mod Same
+pub mod Room
+pub mod Whole
+pub mod Handed
+pub mod Items

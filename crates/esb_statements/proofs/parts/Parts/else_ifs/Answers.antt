@@ -1,0 +1,16 @@
+use Rattle.std.proofs.Common.{true, rules, arith}
+use Rattle.std.proofs.lemmas.Grind.{common_steps}
+use Rattle.esb_reader.specs.Reader.{repeated, node}
+use Rattle.esb_statement_laws.specs.Statements as spec
+use Rattle.esb_statement_tests.proofs.Steps.{one_more}
+use Rattle.esb_statements.proofs.parts.Parts.else_ifs.Goals as goal
+
+pub loop-turn-preserved : goal.loop-turn-preserved
+unfolding repeated
+loop-turn-preserved g c =
+    let this = c.args.self.now in
+    let text = this.text.now in
+    let r = g.R.StatementReaders.handed text this.levels in
+    let l = c.loop-turn in
+    let e = one_more (λ n. repeated (spec.else_if_at text) (spec.else_if text c.args.context this.levels r) n (node l.tree l.levels) l.at) _ l._turn c.loop-turn-test.true l.invariant in
+    first_of (search rules, grind (arith, common_steps))
